@@ -1,0 +1,2 @@
+-- Told tasks serve as well as the tasks themselves.
+pub mod Runs

@@ -1,0 +1,5 @@
+//! Rows of a task table: bare ones, which are any numbers, and made ones, which keep the rules of their kind.
+pub mod bare;
+pub mod kind;
+pub mod paired;
+pub mod plain;
