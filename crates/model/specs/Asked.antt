@@ -1,7 +1,7 @@
 -- The questions to a list of tasks, and their answers.
 use mathlib.Core.Bool.{cond}
 use mathlib.Core.List.{List}
-use Prim.Native.Nat.{ℕ, zero, suc, min}
+use Prim.Native.Nat.{ℕ, zero, suc, _-_, min}
 use lib.Dec.{ltb, leb}
 use lib.ListN.{length}
 use Rattle.std.specs.Finite.{nth}
@@ -49,3 +49,7 @@ demand-told (Some k) t = cond (leb t 1000000) (Some (told (demand k t))) None
 abbrev pub name-told : Option Task → ℕ → Option ℕ
 name-told None name = None
 name-told (Some k) name = Some name
+
+-- the names of one list's tasks, then of another's
+abbrev pub names-then : List Task → (ℕ → ℕ) → (ℕ → ℕ) → ℕ → ℕ
+names-then ks first second i = cond (ltb i (length ks)) (first i) (second (i - length ks))

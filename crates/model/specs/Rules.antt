@@ -8,7 +8,7 @@ use lib.ListN.{length}
 use Rattle.std.specs.declared.option.Option.{Option}
 use Rattle.std.specs.declared.option.Option.the-variants.{Some, None}
 use Rattle.model.specs.declared.refusal.Refusal.{Refusal}
-use Rattle.model.specs.declared.refusal.Refusal.the-variants.{Spacing, Due, Cost, ZeroPart, TooLong, Split, Total, TooManyRows}
+use Rattle.model.specs.declared.refusal.Refusal.the-variants.{Spacing, Due, Cost, ZeroPart, TooLong, Split, Total, Factor, TooManyRows}
 use Rattle.model.specs.Task.{Task}
 use Rattle.model.specs.Rows.{plain, settled, bounded}
 
@@ -41,6 +41,9 @@ settled-fault T C1 S C2 D1 = either (open-fault T C1 S C2) (split-fault T S D1)
 
 abbrev pub bounded-fault : ℕ → ℕ → ℕ → ℕ → ℕ → ℕ → Option Refusal
 bounded-fault T C1 C2 C S D1 = unless Spacing (within 1 T 10000) (unless ZeroPart (no-zero C1 S C2) (unless Total (ltb C1 C && (leb C2 C && leb C (C1 + C2))) (unless TooLong (leb (C + S) T) (split-fault T S D1))))
+
+abbrev pub factor-fault : ℕ → Option Refusal
+factor-fault n = unless Factor (within 2 n 8) None
 
 -- a row that breaks a rule means the least row of its kind, so that every row means a lawful task;
 -- no table is made of such rows

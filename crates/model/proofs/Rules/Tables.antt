@@ -1,13 +1,10 @@
 -- The first of some rows that breaks a rule.
 use mathlib.Core.Path.{_≡_, refl, sym, ap, _∙_}
-use mathlib.Core.Bool.{cond}
-use mathlib.Core.List.{List, [], _∷_, map}
+use mathlib.Core.List.{List, [], _∷_, _++_, map}
 use Prim.Native.Nat.{ℕ, _+_, _<_, _≤_}
-use lib.ListN.{length, getD, drop}
-use Rattle.std.proofs.shelf.Lists.{at-drop-more, at-drop-all}
+use lib.ListN.{length, getD, take, drop}
+use Rattle.std.proofs.shelf.Lists.{at-drop-more, at-drop-all, map-more, take-all}
 use Rattle.std.proofs.shelf.Tests.{le-leb, lt-leb}
-use Rattle.std.proofs.shelf.Ways.{tells}
-use native.Mathlib.Omega.{arith}
 use Rattle.std.specs.declared.option.Option.{Option}
 use Rattle.std.specs.declared.option.Option.the-variants.{Some, None}
 use Rattle.model.specs.declared.refusal.Refusal.{Refusal}
@@ -35,18 +32,14 @@ module _ {R : Type 0} (fault : R → Option Refusal) (rows : List R) where
     pub fault-found : (r : Refusal) → length rows ≤ 32 → fault x ≡ Some r → table-fault fault rows ≡ Some r
     fault-found r low e = few low ∙ here ∙ ap (λ f. either f (first-fault fault (drop (i + 1) rows))) e
 
-module _ {R : Type 0} (fault : R → Option Refusal) (task own : R → Task) (same : (r : R) → fault r ≡ None → task r ≡ own r) where
-  either-none : (f g : Option Refusal) → either f g ≡ None → (f ≡ None) × (g ≡ None)
-  either-none None g e = (refl, e)
-  either-none (Some r) g e = let z : _≡_ {A = ℕ} 0 1 = cc in absurd (omega arith)
+-- the tasks of rows that are tested one by one are those that the rows spell
+module _ {R : Type 0} (task own : R → Task) (rows : List R) where
+  pub own-more : (i : ℕ) (x : R) → i < length rows → x ≡ getD rows i x → task x ≡ own x → map task (take i rows) ≡ map own (take i rows) → map task (take (i + 1) rows) ≡ map own (take (i + 1) rows)
+  own-more i x h is e inv =
+      let a : map task (take (i + 1) rows) ≡ map task (take i rows) ++ task (getD rows i x) ∷ [] = map-more task rows i x h in
+      let b : map own (take (i + 1) rows) ≡ map own (take i rows) ++ own (getD rows i x) ∷ [] = map-more own rows i x h in
+      let c : task (getD rows i x) ≡ own (getD rows i x) = ap task (sym is) ∙ e ∙ ap own is in
+      a ∙ ap (λ ks. ks ++ task (getD rows i x) ∷ []) inv ∙ ap (λ k. map own (take i rows) ++ k ∷ []) c ∙ sym b
 
-  all-own : (rows : List R) → first-fault fault rows ≡ None → map task rows ≡ map own rows
-  all-own [] e = refl
-  all-own (r ∷ rows) e = let p = either-none (fault r) (first-fault fault rows) e in let a = same r (p .0) in let b = all-own rows (p .1) in cc
-
-  few-none : (rows : List R) → table-fault fault rows ≡ None → (length rows ≤ 32) × (first-fault fault rows ≡ None)
-  few-none rows e = grind (arith, tells)
-
-  -- the tasks of a table are those that its rows spell
-  pub own-tasks : (rows : List R) → table-fault fault rows ≡ None → map task rows ≡ map own rows
-  own-tasks rows e = all-own rows (few-none rows e .1)
+  pub own-all : (i : ℕ) → length rows ≤ i → map task (take i rows) ≡ map own (take i rows) → map task rows ≡ map own rows
+  own-all i h inv = ap (map task) (sym (take-all i rows h)) ∙ inv ∙ ap (map own) (take-all i rows h)
