@@ -8,6 +8,7 @@ pub mod Demand
 pub mod Round
 pub mod Asked
 pub mod Rules
+pub mod Splits
 pub mod Told
 pub mod Verdict
 pub mod Safe
