@@ -14,8 +14,8 @@ use Rattle.std.specs.declared.option.Option.{Option}
 use Rattle.std.specs.declared.option.Option.the-variants.{Some, None}
 use Rattle.std.specs.shelf.Lists.{All}
 use Rattle.std.proofs.shelf.Tests.{cases-lt, lt-ltb, le-ltb}
-use Rattle.model.specs.Rows.{From}
-use Rattle.model.specs.Splits.{LawfulOpen, LawfulOffers, short-has, half, down, up, equal-split, equal-offers, proportional-split, proportional-offers, falling-offers, rising-offers}
+use Rattle.model.specs.Rows.{From, LawfulOpen}
+use Rattle.model.specs.Splits.{LawfulOffers, short-has, half, down, up, equal-split, equal-offers, proportional-split, proportional-offers, falling-offers, rising-offers}
 use Rattle.model.proofs.Tests.{if-le}
 
 -- offer number k

@@ -2,12 +2,12 @@
 use mathlib.Core.List.{List, _∷_}
 use mathlib.Core.Logic.{_⊎_, _↔_}
 use mathlib.Core.Path.{_≡_}
-use Prim.Native.Nat.{ℕ, _+_, _-_, _*_, _<_, _≤_, _∣_}
+use Prim.Native.Nat.{ℕ, _+_, _*_, _<_, _≤_, _∣_}
 use Rattle.std.specs.declared.option.Option.the-variants.{None}
 use Rattle.model.specs.Task.{Piece, Task, Lawful, AllLawful}
 use Rattle.model.specs.Run.{Greatest, GreatestOfAll}
 use Rattle.model.specs.Demand.{demand, demand-of-all}
-use Rattle.model.specs.Rows.{From, plain, LawfulPlain, plain-asks, paired, LawfulPaired, paired-asks}
+use Rattle.model.specs.Rows.{plain, LawfulPlain, plain-asks, LawfulOpen, paired, LawfulPaired, paired-asks}
 use Rattle.model.specs.Rules.{plain-fault, open-fault, settled-fault, bounded-fault}
 use Rattle.model.specs.Slow.{slow}
 use Rattle.model.specs.Round.{round, Common}
@@ -37,7 +37,7 @@ Rows-demand =
 pub record RulesMean : Type 0 where
   pub plain-rules : (T D C : ℕ) → (plain-fault T D C ≡ None) ↔ LawfulPlain T D C
   pub plain-lawful : (T D C : ℕ) → LawfulPlain T D C → Lawful (plain T D C)
-  pub open-rules : (T C1 S C2 : ℕ) → (open-fault T C1 S C2 ≡ None) ↔ (From 1 T 10000 × ((1 ≤ C1) × (1 ≤ S) × (1 ≤ C2)) × (C1 + S + C2 ≤ T))
+  pub open-rules : (T C1 S C2 : ℕ) → (open-fault T C1 S C2 ≡ None) ↔ LawfulOpen T C1 S C2
   pub settled-rules : (T C1 S C2 D1 : ℕ) → (settled-fault T C1 S C2 D1 ≡ None) ↔ LawfulPaired T S D1 C1 C2 (C1 + C2)
   pub bounded-rules : (T C1 C2 C S D1 : ℕ) → (bounded-fault T C1 C2 C S D1 ≡ None) ↔ LawfulPaired T S D1 C1 C2 C
   pub paired-lawful : (T S D1 C1 C2 C : ℕ) → LawfulPaired T S D1 C1 C2 C → Lawful (paired T S D1 C1 C2 C)

@@ -30,6 +30,10 @@ paired T S D1 C1 C2 C = record { spacing = T; total = C; pieces = piece 0 D1 C1 
 abbrev pub LawfulPaired : ℕ → ℕ → ℕ → ℕ → ℕ → ℕ → Type 0
 LawfulPaired T S D1 C1 C2 C = From 1 T 10000 × ((1 ≤ C1) × (1 ≤ S) × (1 ≤ C2)) × ((C1 < C) × (C2 ≤ C) × (C ≤ C1 + C2)) × (C + S ≤ T) × From 1 D1 (T - S - 1)
 
+-- two costs with a wait between them, which fit the spacing
+abbrev pub LawfulOpen : ℕ → ℕ → ℕ → ℕ → Type 0
+LawfulOpen T C1 S C2 = From 1 T 10000 × ((1 ≤ C1) × (1 ≤ S) × (1 ≤ C2)) × (C1 + S + C2 ≤ T)
+
 -- an open row with a split: both pieces may cost their caps
 abbrev pub settled : ℕ → ℕ → ℕ → ℕ → ℕ → Task
 settled T C1 S C2 D1 = paired T S D1 C1 C2 (C1 + C2)

@@ -1,9 +1,9 @@
 -- Settled rows, the same rows with equal splits, and settled rows beside further tasks.
 use mathlib.Core.List.{List, _++_, map}
 use mathlib.Core.Path.{_≡_}
-use Prim.Native.Nat.{ℕ, _+_, _-_, _%_, _≤_}
+use Prim.Native.Nat.{ℕ, _-_, _%_}
 use Rattle.model.specs.Task.{Task}
-use Rattle.model.specs.Rows.{From, settled}
+use Rattle.model.specs.Rows.{From, LawfulOpen, settled}
 use Rattle.model.specs.Splits.{equal-split}
 
 pub record Settled : Type 0 where
@@ -14,7 +14,7 @@ pub record Settled : Type 0 where
   pub split : ℕ
 
 abbrev pub LawfulSettled : Settled → Type 0
-LawfulSettled r = From 1 (r .spacing) 10000 × ((1 ≤ r .first) × (1 ≤ r .wait) × (1 ≤ r .second)) × (r .first + r .wait + r .second ≤ r .spacing) × From 1 (r .split) (r .spacing - r .wait - 1)
+LawfulSettled r = LawfulOpen (r .spacing) (r .first) (r .wait) (r .second) × From 1 (r .split) (r .spacing - r .wait - 1)
 
 -- the spacing less the wait is even
 abbrev pub Even : Settled → Type 0

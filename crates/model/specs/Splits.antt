@@ -23,10 +23,6 @@ equal-split T C1 S C2 = short-has T C1 S C2 (half T S)
 abbrev pub proportional-split : ℕ → ℕ → ℕ → ℕ → ℕ
 proportional-split T C1 S C2 = short-has T C1 S C2 ((T - S) * min C1 C2 / (C1 + C2))
 
--- what an open row keeps
-abbrev pub LawfulOpen : ℕ → ℕ → ℕ → ℕ → Type 0
-LawfulOpen T C1 S C2 = From 1 T 10000 × ((1 ≤ C1) × (1 ≤ S) × (1 ≤ C2)) × (C1 + S + C2 ≤ T)
-
 -- a splitter offers an open row at most 10,000 splits, and each leaves room for both pieces
 abbrev pub LawfulOffers : ℕ → ℕ → List ℕ → Type 0
 LawfulOffers T S splits = (length splits ≤ 10000) × All (λ D1. From 1 D1 (T - S - 1)) splits

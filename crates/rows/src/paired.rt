@@ -5,7 +5,7 @@ ghost use Rattle.std.specs.Options.{Cases as BySome};
 ghost use Rattle.std.specs.Results.{Cases};
 ghost use Rattle.std.specs.declared.option.Option.the-variants.{Some, None};
 ghost use Rattle.model.specs.Asked.{nth-piece, demand-told};
-ghost use Rattle.model.specs.Rows.{From, paired, LawfulPaired, first as first-asks};
+ghost use Rattle.model.specs.Rows.{LawfulOpen, paired, LawfulPaired, first as first-asks};
 ghost use Rattle.model.specs.Rules.{open-fault, split-fault, settled-fault, bounded-fault};
 ghost use Rattle.model.specs.Run.{Greatest};
 ghost use Rattle.model.proofs.Demand.Rows.{paired-lawful};
@@ -75,7 +75,7 @@ pub struct Open {
     first: u64,
     wait: u64,
     second: u64,
-    ghost ok: { From 1 spacing 10000 × ((1 ≤ first) × (1 ≤ wait) × (1 ≤ second)) × (first + wait + second ≤ spacing) },
+    ghost ok: { LawfulOpen spacing first wait second },
 }
 
 impl Open {

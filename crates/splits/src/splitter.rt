@@ -3,7 +3,8 @@ ghost use mathlib.Core.List.{List};
 ghost use mathlib.Core.Path.{_≡_};
 ghost use Prim.Native.Nat.{ℕ};
 ghost use Rattle.std.specs.Finite.{nth};
-ghost use Rattle.model.specs.Splits.{LawfulOpen, LawfulOffers};
+ghost use Rattle.model.specs.Rows.{LawfulOpen};
+ghost use Rattle.model.specs.Splits.{LawfulOffers};
 use rows::paired::Open;
 
 /// A splitter means, for every open row, a list of at most 10,000 splits that leave room for both pieces.
