@@ -1,9 +1,13 @@
 //! Runs the worked tables through the library and prints what it computes.
+mod checks_shown;
 mod rows_shown;
 
 use std::io;
 
 fn main(rt: LibcRuntime) -> io::Result<()> {
     rows_shown::show_demands(&rt)?;
-    rows_shown::show_refusals(&rt)
+    rows_shown::show_refusals(&rt)?;
+    checks_shown::show_verdicts(&rt)?;
+    checks_shown::show_piles(&rt)?;
+    checks_shown::show_splits(&rt)
 }
