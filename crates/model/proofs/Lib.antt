@@ -3,6 +3,7 @@ pub mod Tests
 pub mod Pieces
 pub mod Each
 pub mod Least
+pub mod Order
 pub mod Tick
 pub mod Demand
 pub mod Round

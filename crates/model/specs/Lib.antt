@@ -12,6 +12,7 @@ pub mod Round
 pub mod Asked
 pub mod Verdict
 pub mod Machine
+pub mod Order
 pub mod Told
 pub mod Laws
 pub mod Promise

@@ -1,0 +1,3 @@
+-- Heaps, and what they hold.
+pub mod Heaps
+pub mod Held

@@ -1,0 +1,2 @@
+-- What a queue holds, and what its calls do.
+pub mod Held
