@@ -4,15 +4,15 @@ ghost use Rattle.std.specs.Results.{Cases};
 ghost use Rattle.std.specs.declared.option.Option.the-variants.{Some, None};
 ghost use Rattle.model.proofs.Rules.Keeps.{plain-task-lawful, settled-task-lawful, bounded-task-lawful};
 ghost use Rattle.rows.specs.Bare.{plain-breaks, plain-own, plain-means, open-breaks, settled-breaks, settled-own, settled-means, bounded-breaks, bounded-own, bounded-means};
+use crate::bounded::Bounded;
+use crate::bounded::BoundedRowMade;
 use crate::kind::Bare;
 use crate::kind::Kind;
-use crate::paired::Bounded;
-use crate::paired::BoundedRowMade;
-use crate::paired::Open;
-use crate::paired::Settled;
-use crate::paired::SettledRowMade;
+use crate::open::Open;
 use crate::plain::Plain;
 use crate::plain::PlainRowMade;
+use crate::settled::Settled;
+use crate::settled::SettledRowMade;
 use model::refusal::Refusal;
 
 /// One piece: a spacing, a due offset and a cost.

@@ -1,8 +1,9 @@
 //! Plain rows: one piece.
 ghost use mathlib.Core.Path.{_≡_};
+ghost use Prim.Native.Nat.{_≤_};
 ghost use Rattle.std.specs.Results.{Cases};
 ghost use Rattle.std.specs.declared.option.Option.the-variants.{Some, None};
-ghost use Rattle.model.specs.Rows.{plain, LawfulPlain};
+ghost use Rattle.model.specs.Rows.{plain, LawfulPlain, plain-asks};
 ghost use Rattle.model.specs.Rules.{plain-fault};
 ghost use Rattle.model.proofs.Demand.Rows.{plain-lawful};
 use crate::kind::Row;
@@ -51,6 +52,17 @@ impl Plain {
             cost: 1,
         }
     }
+
+    /// The cost of the jobs that a window of a length has room for.
+    fn asked(&self, length: u64) -> u64
+        requires { ⌜ length ≤ 1000000 ⌝ }
+        ensures { λ r. ⌜ r ≡ plain-asks (now (self .entry) .spacing) (now (self .entry) .due) (now (self .entry) .cost) length ⌝ }
+    {
+        if length < self.due {
+            return 0;
+        }
+        self.cost * ((length - self.due) / self.spacing + 1)
+    }
 }
 
 pub impl Row for Plain as PlainRowMade {
@@ -82,11 +94,9 @@ pub impl Row for Plain as PlainRowMade {
 
     fn demand(&self, length: u64) -> Option<u64> {
         if length > 1_000_000 {
-            return None;
+            None
+        } else {
+            Some(self.asked(length))
         }
-        if length < self.due {
-            return Some(0);
-        }
-        Some(self.cost * ((length - self.due) / self.spacing + 1))
     }
 }

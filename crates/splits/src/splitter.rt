@@ -5,7 +5,7 @@ ghost use Prim.Native.Nat.{ℕ};
 ghost use Rattle.std.specs.Finite.{nth};
 ghost use Rattle.model.specs.Rows.{LawfulOpen};
 ghost use Rattle.model.specs.Splits.{LawfulOffers};
-use rows::paired::Open;
+use rows::open::Open;
 
 /// A splitter means, for every open row, a list of at most 10,000 splits that leave room for both pieces.
 pub trait Splitter {

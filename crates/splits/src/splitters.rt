@@ -3,7 +3,7 @@ ghost use mathlib.Core.Path.{_≡_};
 ghost use Rattle.model.specs.Splits.{short-has, half, equal-offers, proportional-offers, falling-offers, rising-offers};
 ghost use Rattle.model.proofs.Splits.{equal-lawful, proportional-lawful, falling-lawful, rising-lawful};
 use crate::splitter::Splitter;
-use rows::paired::Open;
+use rows::open::Open;
 
 /// The split at which the short piece has `ticks`.
 fn giving_short(row: &Open, ticks: u64) -> u64

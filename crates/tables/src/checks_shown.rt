@@ -19,7 +19,7 @@ use rows::bare::PlainRow;
 use rows::bare::SettledBare;
 use rows::bare::SettledKind;
 use rows::bare::SettledRow;
-use rows::paired::Open;
+use rows::open::Open;
 use splits::splitter::Splitter;
 use splits::splitters::Equal;
 use splits::splitters::EqualSplitter;

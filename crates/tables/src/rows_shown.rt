@@ -1,13 +1,13 @@
 //! Rows: the demand of one row of each kind, and each refusal that a row can get.
 use model::refusal::Refusal;
+use rows::bounded::Bounded;
+use rows::bounded::BoundedRowMade;
 use rows::kind::Row;
-use rows::paired::Bounded;
-use rows::paired::BoundedRowMade;
-use rows::paired::Open;
-use rows::paired::Settled;
-use rows::paired::SettledRowMade;
+use rows::open::Open;
 use rows::plain::Plain;
 use rows::plain::PlainRowMade;
+use rows::settled::Settled;
+use rows::settled::SettledRowMade;
 use std::io;
 
 /// The row's pieces, and its demand at each of the lengths; or why there is no such row.

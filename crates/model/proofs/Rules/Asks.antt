@@ -12,11 +12,12 @@ use Rattle.std.specs.declared.option.Option.{Option}
 use Rattle.std.specs.declared.option.Option.the-variants.{Some, None}
 use Rattle.model.specs.Asked.{demand-told}
 use Rattle.model.specs.Demand.{demand}
-use Rattle.model.specs.Rows.{plain, LawfulPlain, first, paired, LawfulPaired}
+use Rattle.model.specs.Rows.{plain, LawfulPlain, plain-asks, first, paired, LawfulPaired, paired-asks}
 use Rattle.model.specs.Run.{Greatest}
 use Rattle.model.specs.Task.{Task, Lawful}
 use Rattle.model.proofs.Demand.Greatest.{greatest}
-use Rattle.model.proofs.Demand.Rows.{plain-lawful, plain-none, plain-some, paired-lawful, paired-demand}
+use Rattle.model.proofs.Demand.Rows.{plain-lawful, plain-demand, paired-lawful, paired-demand}
+use Rattle.model.proofs.Tests.{if-le}
 
 -- the answer r to the question for the demand of k at t
 pub record Asked (k : Task) (t : ℕ) (r : Option ℕ) : Type 0 where
@@ -36,23 +37,23 @@ near : (k : Task) (t n : ℕ) → Lawful k → t ≤ 1000000 → n ≡ demand k 
 near k t n law h e top = record { value = some-told t n (demand k t) h e top; greatest = subst (Greatest k t) (sym e) (greatest k law t) }
 
 module _ (T D C : ℕ) (l : LawfulPlain T D C) (t : ℕ) (h : t ≤ 1000000) where
-  pub plain-before : t < D → Asked (plain T D C) t (Some 0)
-  plain-before b = near (plain T D C) t 0 (plain-lawful T D C l) h (sym (plain-none T D C l t b)) (omega arith)
-
-  pub plain-after : D ≤ t → Asked (plain T D C) t (Some (C * ((t - D) / T + 1)))
-  plain-after b =
+  plain-top : plain-asks T D C t ≤ 100000000000000
+  plain-top =
       let few : (t - D) / T + 1 ≤ 1000001 = omega (arith, div-le-self (t - D) T) in
-      near (plain T D C) t _ (plain-lawful T D C l) h (sym (plain-some T D C l t b)) (omega (arith, mul-le C ((t - D) / T + 1) 10000 1000001 (omega arith) few))
+      omega (arith, if-le, mul-le C ((t - D) / T + 1) 10000 1000001 (omega arith) few)
 
-module _ (T S D1 C1 C2 C : ℕ) (l : LawfulPaired T S D1 C1 C2 C) (t f : ℕ) (h : t ≤ 1000000) (is : f ≡ first T D1 C1 C t) (top : f ≤ 10000010000) where
-  pub paired-before : t < T - S - D1 → Asked (paired T S D1 C1 C2 C) t (Some f)
-  paired-before b =
-      let d = paired-demand T S D1 C1 C2 C l t in
-      let e : f ≡ demand (paired T S D1 C1 C2 C) t = grind (arith, tells) in
-      near _ t f (paired-lawful T S D1 C1 C2 C l) h e (omega arith)
+  pub plain-asked : (n : ℕ) → n ≡ plain-asks T D C t → Asked (plain T D C) t (Some n)
+  plain-asked n e = near (plain T D C) t n (plain-lawful T D C l) h (e ∙ sym (plain-demand T D C l t)) (omega (arith, e, plain-top))
 
-  pub paired-after : (s m : ℕ) → T - S - D1 ≤ t → s ≡ C2 + first T D1 C1 C (t - (T - S - D1)) → s ≤ 10000020000 → m ≡ max f s → Asked (paired T S D1 C1 C2 C) t (Some m)
-  paired-after s m b es ts em =
-      let d = paired-demand T S D1 C1 C2 C l t in
-      let e : m ≡ demand (paired T S D1 C1 C2 C) t = grind (arith, tells) in
-      near _ t m (paired-lawful T S D1 C1 C2 C l) h e (omega arith)
+module _ (T S D1 C1 C2 C : ℕ) (l : LawfulPaired T S D1 C1 C2 C) where
+  -- a sum that starts at a wake stays small
+  pub first-top : (t n : ℕ) → t ≤ 1000000 → n ≡ first T D1 C1 C t → n ≤ 10000010000
+  first-top t n h e =
+      let few : t / T ≤ 1000000 = omega (arith, div-le-self t T) in
+      omega (arith, e, if-le, mul-le (t / T) C 1000000 10000 few (omega arith))
+
+  pub paired-asked : (t n : ℕ) → t ≤ 1000000 → n ≡ paired-asks T S D1 C1 C2 C t → Asked (paired T S D1 C1 C2 C) t (Some n)
+  paired-asked t n h e =
+      let a = first-top t (first T D1 C1 C t) h refl in
+      let b = first-top (t - ((T - S) - D1)) (first T D1 C1 C (t - ((T - S) - D1))) (omega arith) refl in
+      near _ t n (paired-lawful T S D1 C1 C2 C l) h (e ∙ sym (paired-demand T S D1 C1 C2 C l t)) (omega (arith, e, if-le, a, b))
