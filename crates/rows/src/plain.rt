@@ -61,7 +61,7 @@ impl Plain {
         if length < self.due {
             return 0;
         }
-        self.cost * ((length - self.due) / self.spacing + 1)
+        ((length - self.due) / self.spacing + 1) * self.cost
     }
 }
 
