@@ -1,0 +1,2 @@
+-- How the pen's tasks are found.
+pub mod Found
