@@ -1,7 +1,6 @@
 //! A queue over lent places.
-ghost use mathlib.Core.List.{List, [], _∷_};
 ghost use mathlib.Core.Path.{_≡_};
-ghost use Prim.Native.Nat.{min, _+_, _-_, _<_, _≤_};
+ghost use Prim.Native.Nat.{min};
 ghost use denote.Ref.{name};
 ghost use lib.ListN.{length, take};
 ghost use Rattle.queue.specs.Held.{GivesFirst, Heaped, Peeked, Put, Taken};
@@ -9,6 +8,18 @@ use crate::order::Ranked;
 use crate::sift::put_into;
 use crate::sift::take_from;
 use model::refusal::Refusal;
+
+/// The record at the front of the queue that a queue left in the first `len` of these places.
+pub fn front_of<R: Ranked + Copy>(items: &[R], len: usize) -> Option<R>
+    ensures held { λ r. ⌜ Peeked (take len (now (items .entry))) r ⌝ }
+    ensures first { λ r. ⌜ (Heaped (R·Ranked .earlier) (now (items .entry)) len → GivesFirst (R·Ranked .earlier) (take len (now (items .entry))) r) ⌝ }
+{
+    let n = len.min(items.len());
+    if n == 0 {
+        return None;
+    }
+    Some(items[0])
+}
 
 /// A queue over lent places, of which the first `len` hold its records (all of them, where `len` is more).
 ///
@@ -51,10 +62,7 @@ impl<'a, R: Ranked + Copy> Queue<'a, R> {
         ensures held { λ r. ⌜ Peeked (take (now (self .entry) .len) (now (now (self .entry) .items))) r ⌝ }
         ensures first { λ r. ⌜ (Heaped (R·Ranked .earlier) (now (now (self .entry) .items)) (now (self .entry) .len) → GivesFirst (R·Ranked .earlier) (take (now (self .entry) .len) (now (now (self .entry) .items))) r) ⌝ }
     {
-        if self.len() == 0 {
-            return None;
-        }
-        Some(self.items[0])
+        front_of(self.items, self.len)
     }
 
     /// Puts a record in, if there is a free place.

@@ -1,0 +1,3 @@
+//! Texts and lines tried on frames.
+#[cfg(test)]
+mod faults;

@@ -1,0 +1,11 @@
+pub mod Accepted
+pub mod Ends
+pub mod Fitting
+pub mod Lined
+pub mod Readback
+pub mod Rooms
+pub mod Spelling
+pub mod Steps
+pub mod Table
+pub mod Turning
+pub mod Written

@@ -1,0 +1,7 @@
+pub mod Hex
+pub mod Frames
+pub mod Rows
+pub mod Texts
+pub mod Turns
+pub mod Lines
+pub mod Laws

@@ -1,0 +1,42 @@
+//! A line of text as it is written.
+ghost use mathlib.Core.Path.{_≡_};
+ghost use Prim.Native.Nat.{_≤_};
+ghost use lib.ListN.{length, take};
+ghost use Rattle.frames.specs.Hex.{line};
+use crate::digits::digit_of;
+
+/// A frame's digits and the line's end; a frame has at most 14 bytes.
+#[derive(Clone, Copy)]
+pub struct Line {
+    text: [u8; 29],
+    size: usize,
+    ghost long: { length text ≡ 29 },
+    ghost fits: { size ≤ 29 },
+}
+
+impl Line {
+    /// The line of some bytes.
+    pub(crate) fn of(bytes: &[u8]) -> Line
+        requires { ⌜ length (now bytes) ≤ 14 ⌝ }
+        ensures { λ r. ⌜ take (r .size) (r .text) ≡ line (now (bytes .entry)) ⌝ }
+    {
+        let mut text = [0; 29];
+        for i in 0..bytes.len() {
+            text[2 * i] = digit_of(bytes[i] / 16);
+            text[2 * i + 1] = digit_of(bytes[i] % 16);
+        }
+        let end = 2 * bytes.len();
+        text[end] = b'\n';
+        Line {
+            text,
+            size: end + 1,
+        }
+    }
+
+    /// The bytes of the line, its end included.
+    pub fn as_slice(&self) -> &[u8]
+        ensures { λ r. ⌜ now r ≡ take (now (self .entry) .size) (now (self .entry) .text) ⌝ }
+    {
+        &self.text[0..self.size]
+    }
+}
