@@ -1,5 +1,6 @@
 //! Runs the worked tables through the library and prints what it computes.
 mod checks_shown;
+mod machine_shown;
 mod rows_shown;
 
 use std::io;
@@ -9,5 +10,7 @@ fn main(rt: LibcRuntime) -> io::Result<()> {
     rows_shown::show_refusals(&rt)?;
     checks_shown::show_verdicts(&rt)?;
     checks_shown::show_piles(&rt)?;
-    checks_shown::show_splits(&rt)
+    checks_shown::show_splits(&rt)?;
+    machine_shown::show_machine(&rt)?;
+    machine_shown::show_misses(&rt)
 }
