@@ -5,7 +5,9 @@ use loads::pair::PairLoad;
 use loads::table::Table;
 use loads::table::TableLoad;
 use machine::answer::Ticked;
+use machine::clock::Core;
 use machine::machine::Machine;
+use machine::opens::open_core;
 use model::refusal::Refusal;
 use rows::bare::PlainBare;
 use rows::bare::PlainKind;
@@ -66,22 +68,21 @@ fn end<L: Load + Drop>(rt: &LibcRuntime, machine: &mut Machine<L>, task: u64) ->
     show_call(rt, "end", task, machine.end(task))
 }
 
-/// A machine on a plain and a settled table; or why there is none.
-fn opened<'a>(
-    plains: &'a [PlainRow],
-    settleds: &'a [SettledRow],
-    start: u64,
-) -> Result<Machine<Pair<Table<'a, PlainRow>, Table<'a, SettledRow>>>, Refusal> {
+/// A plain and a settled table, one after the other, if both are lawful.
+type Tables<'a> = Pair<Table<'a, PlainRow>, Table<'a, SettledRow>>;
+
+fn paired<'a>(plains: &'a [PlainRow], settleds: &'a [SettledRow]) -> Result<Tables<'a>, Refusal> {
     let first = Table::new(plains)?;
     let second = Table::new(settleds)?;
-    Machine::open(Pair { first, second }, start)
+    Ok(Pair { first, second })
 }
 
 /// The number by which opening is refused, 0 where it is not.
-fn open_number(plains: &[PlainRow], settleds: &[SettledRow], start: u64) -> u8 {
-    match opened(plains, settleds, start) {
-        Ok(_) => 0,
-        Err(refusal) => refusal.number(),
+fn open_number(plains: &[PlainRow], settleds: &[SettledRow], start: u64) -> Result<u8, Refusal> {
+    let load = paired(plains, settleds)?;
+    match open_core(&load, start) {
+        Ok(_) => Ok(0),
+        Err(refusal) => Ok(refusal.number()),
     }
 }
 
@@ -145,38 +146,75 @@ fn show_last_instant<L: Load + Drop>(rt: &LibcRuntime, machine: &mut Machine<L>)
     tick(rt, machine)
 }
 
+/// The runs that are shown.
+#[derive(Clone, Copy)]
+enum Run {
+    Worked,
+    Refusals,
+    LastInstant,
+    Miss,
+    OpenJob,
+}
+
+/// Opens a machine on the two tables at `start`, and shows a run of it.
+fn show_run(
+    rt: &LibcRuntime,
+    plains: &[PlainRow],
+    settleds: &[SettledRow],
+    start: u64,
+    run: Run,
+) -> io::Result<()> {
+    let Ok(load) = paired(plains, settleds) else {
+        return println!(rt, "  no such tables");
+    };
+    let Ok(core) = open_core(&load, start) else {
+        return println!(rt, "  no machine");
+    };
+    let mut machine = Machine::over(load, core);
+    match run {
+        Run::Worked => show_worked_run(rt, &mut machine),
+        Run::Refusals => show_refusals(rt, &mut machine),
+        Run::LastInstant => show_last_instant(rt, &mut machine),
+        Run::Miss => show_miss(rt, &mut machine),
+        Run::OpenJob => show_open_job(rt, &mut machine),
+    }
+}
+
+fn show_opening(rt: &LibcRuntime, title: &str, number: Result<u8, Refusal>) -> io::Result<()> {
+    match number {
+        Ok(number) => println!(rt, "{title}: refused by {number}"),
+        Err(_) => println!(rt, "{title}: no such tables"),
+    }
+}
+
 pub fn show_machine(rt: &LibcRuntime) -> io::Result<()> {
     println!(rt, "== The machine")?;
-    let plain = [PlainRow {
+    let plain = PlainRow {
         name: 1,
         spacing: 5,
         due: 5,
         cost: 1,
-    }];
-    let page = [SettledRow {
+    };
+    let page = SettledRow {
         name: 2,
         spacing: 10,
         first: 1,
         wait: 8,
         second: 1,
         split: 1,
-    }];
+    };
     println!(rt, "plain (5; 5, 1), settled (10; 1, 8, 1; split 1)")?;
-    if let Ok(mut machine) = opened(&plain, &page, 0) {
-        show_worked_run(rt, &mut machine)?;
-    }
+    show_run(rt, &[plain], &[page], 0, Run::Worked)?;
     println!(rt, "the same, refused calls")?;
-    if let Ok(mut machine) = opened(&plain, &page, 7) {
-        show_refusals(rt, &mut machine)?;
-    }
+    show_run(rt, &[plain], &[page], 7, Run::Refusals)?;
     println!(rt, "the same, from the latest start")?;
-    if let Ok(mut machine) = opened(&plain, &page, 999_999_999_700_000) {
-        show_last_instant(rt, &mut machine)?;
-    }
-    let late = open_number(&plain, &page, 999_999_999_700_001);
-    let many = open_number(&[plain[0]; 32], &page, 0);
-    println!(rt, "a later start: refused by {late}")?;
-    println!(rt, "33 tasks: refused by {many}")
+    show_run(rt, &[plain], &[page], 999_999_999_700_000, Run::LastInstant)?;
+    show_opening(
+        rt,
+        "a later start",
+        open_number(&[plain], &[page], 999_999_999_700_001),
+    )?;
+    show_opening(rt, "33 tasks", open_number(&[plain; 32], &[page], 0))
 }
 
 pub fn show_misses(rt: &LibcRuntime) -> io::Result<()> {
@@ -193,9 +231,7 @@ pub fn show_misses(rt: &LibcRuntime) -> io::Result<()> {
         cost: 1,
     };
     println!(rt, "plain (2; 2, 2), (2; 1, 1)")?;
-    if let Ok(mut machine) = opened(&[late, tight], &[], 0) {
-        show_miss(rt, &mut machine)?;
-    }
+    show_run(rt, &[late, tight], &[], 0, Run::Miss)?;
     let long = PlainRow {
         name: 1,
         spacing: 9,
@@ -209,10 +245,7 @@ pub fn show_misses(rt: &LibcRuntime) -> io::Result<()> {
         cost: 1,
     };
     println!(rt, "plain (9; 1, 1), (1; 1, 1)")?;
-    if let Ok(mut machine) = opened(&[long, short], &[], 0) {
-        show_open_job(rt, &mut machine)?;
-    }
-    // a machine is its load and its core
-    let bytes = size_of::<Machine<()>>();
+    show_run(rt, &[long, short], &[], 0, Run::OpenJob)?;
+    let bytes = size_of::<Core>();
     println!(rt, "the core takes {bytes} bytes")
 }
