@@ -31,15 +31,6 @@ impl<L: Load + Drop> Machine<L> {
         Ok(Machine { load, core })
     }
 
-    /// The machine of a core that was opened on the load. Where the load holds references, this is the way to a machine:
-    /// `Machine::over(load, open_core(&load, start)?)`.
-    pub fn over(load: L, core: Core) -> Machine<L>
-        ensures load { λ r. ⌜ r .load ≡ load ⌝ }
-        ensures core { λ r. ⌜ r .core ≡ core ⌝ }
-    {
-        Machine { load, core }
-    }
-
     /// The load that the machine was opened on.
     pub fn load(&self) -> &L
         ensures { λ r. ⌜ now r ≡ now (self .entry) .load ⌝ }

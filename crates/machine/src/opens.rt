@@ -46,7 +46,7 @@ fn some_task() -> Numbers {
 }
 
 /// The core of a machine: the load's tasks, told and copied, at rest at the instant `start`.
-pub fn open_core<L: Load>(load: &L, start: u64) -> Result<Core, Refusal>
+pub(crate) fn open_core<L: Load>(load: &L, start: u64) -> Result<Core, Refusal>
     ensures { λ r. ⌜ Opened (L·Load .tasks (now (load .entry))) start r ⌝ }
 {
     let count = load.count();

@@ -1,13 +1,12 @@
 //! The machine: the worked run, a miss, each refusal of its calls, and the size of its core.
+use loads::lent::LentLoad;
 use loads::load::Load;
 use loads::pair::Pair;
 use loads::pair::PairLoad;
 use loads::table::Table;
 use loads::table::TableLoad;
 use machine::answer::Ticked;
-use machine::clock::Core;
 use machine::machine::Machine;
-use machine::opens::open_core;
 use model::refusal::Refusal;
 use rows::bare::PlainBare;
 use rows::bare::PlainKind;
@@ -80,7 +79,7 @@ fn paired<'a>(plains: &'a [PlainRow], settleds: &'a [SettledRow]) -> Result<Tabl
 /// The number by which opening is refused, 0 where it is not.
 fn open_number(plains: &[PlainRow], settleds: &[SettledRow], start: u64) -> Result<u8, Refusal> {
     let load = paired(plains, settleds)?;
-    match open_core(&load, start) {
+    match Machine::open(&load, start) {
         Ok(_) => Ok(0),
         Err(refusal) => Ok(refusal.number()),
     }
@@ -167,10 +166,9 @@ fn show_run(
     let Ok(load) = paired(plains, settleds) else {
         return println!(rt, "  no such tables");
     };
-    let Ok(core) = open_core(&load, start) else {
+    let Ok(mut machine) = Machine::open(&load, start) else {
         return println!(rt, "  no machine");
     };
-    let mut machine = Machine::over(load, core);
     match run {
         Run::Worked => show_worked_run(rt, &mut machine),
         Run::Refusals => show_refusals(rt, &mut machine),
@@ -246,6 +244,7 @@ pub fn show_misses(rt: &LibcRuntime) -> io::Result<()> {
     };
     println!(rt, "plain (9; 1, 1), (1; 1, 1)")?;
     show_run(rt, &[long, short], &[], 0, Run::OpenJob)?;
-    let bytes = size_of::<Core>();
+    // a machine is its load and its core
+    let bytes = size_of::<Machine<()>>();
     println!(rt, "the core takes {bytes} bytes")
 }
