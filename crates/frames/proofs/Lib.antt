@@ -1,6 +1,5 @@
 pub mod Accepted
 pub mod Ends
-pub mod Fitting
 pub mod Lined
 pub mod Readback
 pub mod Rooms
@@ -8,4 +7,3 @@ pub mod Spelling
 pub mod Steps
 pub mod Table
 pub mod Turning
-pub mod Written

@@ -28,8 +28,7 @@ use Rattle.frames.specs.declared.fault.Layer.the-variants.{Text, Frame}
 use Rattle.frames.specs.declared.frame.TextRow.{TextRow}
 use Rattle.frames.specs.declared.frame.TextRow.the-variants.{Plain, Open, Bounded}
 use Rattle.frames.specs.Hex.{worth, digit, all-digits, spells, bytes, spelled}
-use Rattle.frames.specs.Frames.{fault-at, _then_, field, fields, digits-test, tag-of, length-test, kept, body, plain-row, plain-numbers, open-row, open-numbers, bounded-row, bounded-numbers}
-use Rattle.frames.specs.Lines.{in-bytes, framed-row}
+use Rattle.frames.specs.Frames.{fault-at, _then_, field, fields, digits-test, tag-of, length-test, kept, body, plain-row, plain-numbers, open-row, open-numbers, bounded-row, bounded-numbers, in-bytes, framed-row}
 use Rattle.frames.specs.Rows.{by-tag, row-of}
 use Rattle.frames.specs.Laws.{frame-of, Lawful}
 use Rattle.frames.proofs.Spelling.{spells-digits, spells-even}

@@ -1,5 +1,5 @@
 -- Frames: a tag byte, a name byte, then fields of two bytes each, the high byte first.
-use Prim.Native.Nat.{ℕ, _+_, _*_}
+use Prim.Native.Nat.{ℕ, _+_, _*_, _/_, _%_}
 use mathlib.Core.Bool.{Bool, true, false, cond}
 use mathlib.Core.List.{List, [], _∷_}
 use lib.Dec.{eqb}
@@ -88,3 +88,12 @@ framed tag count row breaks n text =
     digits-test n text then (λ _.
     tag-of n (bytes text) then (λ t.
     cond (eqb t tag) (body count row breaks n (bytes text)) (Err (fault-at UnknownTag n Frame))))
+
+-- Numbers as fields: two bytes each, the high byte first.
+abbrev pub in-bytes : List ℕ → List ℕ
+in-bytes [] = []
+in-bytes (n ∷ ns) = (n / 256 % 256) ∷ (n % 256) ∷ in-bytes ns
+
+-- the frame of a tag, a name and some numbers
+abbrev pub framed-row : ℕ → ℕ → List ℕ → List ℕ
+framed-row tag name numbers = tag ∷ name ∷ in-bytes numbers

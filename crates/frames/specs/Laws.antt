@@ -5,19 +5,14 @@ use mathlib.Core.Logic.{_↔_}
 use mathlib.Core.List.{List, [], _∷_, _++_}
 use lib.ListN.{length, take}
 use Rattle.std.specs.shelf.Lists.{All, joined}
-use Rattle.std.specs.declared.option.Option.the-variants.{Some, None}
+use Rattle.std.specs.declared.option.Option.the-variants.{None}
 use Rattle.std.specs.declared.result.Result.the-variants.{Ok}
-use Rattle.rows.specs.declared.bare.PlainRow.{PlainRow}
-use Rattle.rows.specs.declared.bare.OpenRow.{OpenRow}
-use Rattle.rows.specs.declared.bare.SettledRow.{SettledRow}
-use Rattle.rows.specs.declared.bare.BoundedRow.{BoundedRow}
-use Rattle.rows.specs.Bare.{plain-breaks, open-breaks, bounded-breaks, settled-breaks}
+use Rattle.rows.specs.Bare.{plain-breaks, open-breaks, bounded-breaks}
 use Rattle.frames.specs.declared.frame.TextRow.{TextRow}
 use Rattle.frames.specs.declared.frame.TextRow.the-variants.{Plain, Open, Bounded}
 use Rattle.frames.specs.declared.text.Counts.{Counts}
 use Rattle.frames.specs.Hex.{spelled, line}
-use Rattle.frames.specs.Frames.{plain-numbers, open-numbers, bounded-numbers, settled-numbers}
-use Rattle.frames.specs.Lines.{framed-row, row-text}
+use Rattle.frames.specs.Frames.{plain-numbers, open-numbers, bounded-numbers, framed-row}
 use Rattle.frames.specs.Rows.{row-of}
 use Rattle.frames.specs.Texts.{plain-rows, open-rows, bounded-rows, Outcome, text-read}
 
@@ -36,14 +31,6 @@ Lawful (Bounded r) = (r .name < 256) × (bounded-breaks r ≡ None)
 -- A line reads as a row exactly where the row keeps the rules and the line is the one that the row is written as.
 abbrev pub Written-rows-read-back : Type 0
 Written-rows-read-back = (n : ℕ) (row : TextRow) (text : List ℕ) → (row-of n text ≡ Ok row) ↔ (Lawful row × (text ≡ spelled (frame-of row)))
-
--- A row that keeps the rules of its kind is written, whatever its kind.
-abbrev pub Lawful-rows-are-written : Type 0
-Lawful-rows-are-written =
-    ((r : PlainRow) → plain-breaks r ≡ None → row-text 1 3 (r .name) (plain-numbers r) ≡ Some (line (framed-row 1 (r .name) (take 3 (plain-numbers r)))))
-    × ((r : OpenRow) → open-breaks r ≡ None → row-text 2 4 (r .name) (open-numbers r) ≡ Some (line (framed-row 2 (r .name) (take 4 (open-numbers r)))))
-    × ((r : BoundedRow) → bounded-breaks r ≡ None → row-text 3 6 (r .name) (bounded-numbers r) ≡ Some (line (framed-row 3 (r .name) (take 6 (bounded-numbers r)))))
-    × ((r : SettledRow) → settled-breaks r ≡ None → row-text 18 5 (r .name) (settled-numbers r) ≡ Some (line (framed-row 18 (r .name) (take 5 (settled-numbers r)))))
 
 -- rows that tables of some places can take
 abbrev pub Fit : Counts → List TextRow → Type 0

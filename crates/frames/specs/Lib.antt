@@ -3,5 +3,4 @@ pub mod Frames
 pub mod Rows
 pub mod Texts
 pub mod Turns
-pub mod Lines
 pub mod Laws

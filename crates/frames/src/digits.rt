@@ -1,7 +1,6 @@
 //! Hexadecimal digits.
 ghost use mathlib.Core.Path.{_≡_};
-ghost use Prim.Native.Nat.{_<_};
-ghost use Rattle.frames.specs.Hex.{worth, digit};
+ghost use Rattle.frames.specs.Hex.{worth};
 
 /// The value of each byte as a digit: 0 to 9 and A to F; 255 for a byte that is no digit.
 const VALUES: [u8; 256] = [
@@ -268,16 +267,4 @@ pub fn value_of(byte: u8) -> u8
     ensures { λ r. ⌜ r ≡ worth byte ⌝ }
 {
     VALUES[byte as usize]
-}
-
-/// The digit of a value.
-pub(crate) fn digit_of(value: u8) -> u8
-    requires { ⌜ value < 16 ⌝ }
-    ensures { λ r. ⌜ r ≡ digit value ⌝ }
-{
-    if value < 10 {
-        b'0' + value
-    } else {
-        b'A' + (value - 10)
-    }
 }

@@ -12,6 +12,7 @@ use crate::fault::Fault;
 use crate::fault::Layer;
 use crate::kinds::BoundedFrame;
 use crate::kinds::FrameKind;
+use crate::kinds::MOST_FIELDS;
 use crate::kinds::OpenFrame;
 use crate::kinds::PlainFrame;
 use model::refusal::Refusal;
@@ -70,7 +71,7 @@ fn field_at(text: &[u8], place: usize) -> u64
     256 * byte_at(text, 2 * place + 2) as u64 + byte_at(text, 2 * place + 3) as u64
 }
 
-fn fields_at(text: &[u8]) -> [u64; 6]
+fn fields_at(text: &[u8]) -> [u64; MOST_FIELDS]
     requires { ⌜ spells (now text) ≡ true ⌝ }
     ensures { λ r. ⌜ r ≡ fields (bytes (now (text .entry))) ⌝ }
 {
@@ -140,18 +141,18 @@ fn read_body<K: FrameKind + Drop>(line: u16, text: &[u8]) -> Result<K, Fault>
 }
 
 /// The row of a kind that a line spells.
-pub fn read_frame<K: FrameKind + Drop>(line: u16, text: &[u8]) -> Result<K, Fault>
-    ensures { λ r. ⌜ r ≡ framed (K·Kind .tagged) (K·Kind .fielded) (K·FrameKind .row) (K·Kind .fault) line (now (text .entry)) ⌝ }
+pub fn read_frame<K: FrameKind + Drop>(line: u16, digits: &[u8]) -> Result<K, Fault>
+    ensures { λ r. ⌜ r ≡ framed (K·Kind .tagged) (K·Kind .fielded) (K·FrameKind .row) (K·Kind .fault) line (now (digits .entry)) ⌝ }
 {
-    test_digits(line, text)?;
-    if tag_at(line, text)? != K::kind_tag() {
+    test_digits(line, digits)?;
+    if tag_at(line, digits)? != K::kind_tag() {
         return Err(Fault {
             refusal: Refusal::UnknownTag,
             line,
             layer: Layer::Frame,
         });
     }
-    read_body(line, text)
+    read_body(line, digits)
 }
 
 /// The row that a line spells, of any kind that a text may hold.

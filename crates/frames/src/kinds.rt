@@ -13,8 +13,8 @@ use rows::bare::SettledKind;
 use rows::bare::SettledRow;
 use rows::kind::Kind;
 
-/// The most fields that a frame has.
-pub const MOST: usize = 6;
+/// The most fields that a kind of row has.
+pub const MOST_FIELDS: usize = 6;
 
 /// A kind of row that a frame can spell. A row's numbers are its fields, in their order, and 0 in the places past them.
 pub trait FrameKind: Kind + Sized {
@@ -23,10 +23,10 @@ pub trait FrameKind: Kind + Sized {
 
     ghost numbers: { Self → List ℕ };
 
-    fn of_fields(name: u8, fields: [u64; 6]) -> Self
+    fn of_fields(name: u8, fields: [u64; MOST_FIELDS]) -> Self
         ensures { λ r. ⌜ r ≡ row name fields ⌝ };
 
-    fn fields(&self) -> [u64; 6]
+    fn fields(&self) -> [u64; MOST_FIELDS]
         ensures { λ r. ⌜ r ≡ numbers (now (self .entry)) ⌝ };
 }
 
@@ -35,7 +35,7 @@ pub impl FrameKind for PlainRow as PlainFrame {
 
     ghost numbers = { λ r. plain-numbers r };
 
-    fn of_fields(name: u8, fields: [u64; 6]) -> PlainRow {
+    fn of_fields(name: u8, fields: [u64; MOST_FIELDS]) -> PlainRow {
         PlainRow {
             name,
             spacing: fields[0],
@@ -44,7 +44,7 @@ pub impl FrameKind for PlainRow as PlainFrame {
         }
     }
 
-    fn fields(&self) -> [u64; 6] {
+    fn fields(&self) -> [u64; MOST_FIELDS] {
         [self.spacing, self.due, self.cost, 0, 0, 0]
     }
 }
@@ -54,7 +54,7 @@ pub impl FrameKind for OpenRow as OpenFrame {
 
     ghost numbers = { λ r. open-numbers r };
 
-    fn of_fields(name: u8, fields: [u64; 6]) -> OpenRow {
+    fn of_fields(name: u8, fields: [u64; MOST_FIELDS]) -> OpenRow {
         OpenRow {
             name,
             spacing: fields[0],
@@ -64,7 +64,7 @@ pub impl FrameKind for OpenRow as OpenFrame {
         }
     }
 
-    fn fields(&self) -> [u64; 6] {
+    fn fields(&self) -> [u64; MOST_FIELDS] {
         [self.spacing, self.first, self.wait, self.second, 0, 0]
     }
 }
@@ -74,7 +74,7 @@ pub impl FrameKind for BoundedRow as BoundedFrame {
 
     ghost numbers = { λ r. bounded-numbers r };
 
-    fn of_fields(name: u8, fields: [u64; 6]) -> BoundedRow {
+    fn of_fields(name: u8, fields: [u64; MOST_FIELDS]) -> BoundedRow {
         BoundedRow {
             name,
             spacing: fields[0],
@@ -86,7 +86,7 @@ pub impl FrameKind for BoundedRow as BoundedFrame {
         }
     }
 
-    fn fields(&self) -> [u64; 6] {
+    fn fields(&self) -> [u64; MOST_FIELDS] {
         [
             self.spacing,
             self.first,
@@ -103,7 +103,7 @@ pub impl FrameKind for SettledRow as SettledFrame {
 
     ghost numbers = { λ r. settled-numbers r };
 
-    fn of_fields(name: u8, fields: [u64; 6]) -> SettledRow {
+    fn of_fields(name: u8, fields: [u64; MOST_FIELDS]) -> SettledRow {
         SettledRow {
             name,
             spacing: fields[0],
@@ -114,7 +114,7 @@ pub impl FrameKind for SettledRow as SettledFrame {
         }
     }
 
-    fn fields(&self) -> [u64; 6] {
+    fn fields(&self) -> [u64; MOST_FIELDS] {
         [
             self.spacing,
             self.first,

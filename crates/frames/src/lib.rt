@@ -1,9 +1,7 @@
-//! Frames: rows as lines of hexadecimal text, read into tables, and the lines that are written.
+//! Frames: rows as lines of hexadecimal text, read into tables.
 pub mod digits;
 pub mod fault;
 pub mod frame;
 pub mod kinds;
 pub mod laws;
-pub mod line;
 pub mod text;
-pub mod write;
