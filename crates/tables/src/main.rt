@@ -2,6 +2,7 @@
 mod checks_shown;
 mod machine_shown;
 mod rows_shown;
+mod texts_shown;
 
 use std::io;
 
@@ -12,5 +13,8 @@ fn main(rt: LibcRuntime) -> io::Result<()> {
     checks_shown::show_piles(&rt)?;
     checks_shown::show_splits(&rt)?;
     machine_shown::show_machine(&rt)?;
-    machine_shown::show_misses(&rt)
+    machine_shown::show_misses(&rt)?;
+    texts_shown::show_texts(&rt)?;
+    texts_shown::show_row_faults(&rt)?;
+    texts_shown::show_lines(&rt)
 }
