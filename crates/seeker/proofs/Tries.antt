@@ -1,19 +1,17 @@
 -- The steps of a trial, and of the walk over a row's candidates.
 use mathlib.Core.Path.{_≡_, refl, sym, ap, _∙_}
-use mathlib.Core.Bool.{Bool, cond}
+use mathlib.Core.Bool.{Bool, true, false, cond}
 use mathlib.Core.List.{List, [], _∷_, _++_}
 use Prim.Native.Nat.{ℕ, zero, suc, _+_, _<_}
 use native.Mathlib.Omega.{arith}
 use native.Mathlib.Numerals.{add-one}
 use lib.ListN.{length, getD, set, drop}
 use Rattle.std.specs.Finite.{nth}
-use Rattle.std.specs.declared.option.Option.{Option}
 use Rattle.std.specs.declared.option.Option.the-variants.{Some, None}
 use Rattle.std.proofs.shelf.Lists.{set-set, set-getD}
 use Rattle.rows.specs.declared.bare.OpenRow.{OpenRow}
 use Rattle.rows.specs.declared.bare.SettledRow.{SettledRow}
 use Rattle.seeker.specs.Sought.{with-split, first-passing}
-use mathlib.Core.Bool.{true, false}
 
 -- a place that gets its row back is as it was
 pub undone : (rows out : List SettledRow) (p : ℕ) (x d : SettledRow) → out ≡ set (set rows p x) p (getD rows p d) → out ≡ rows

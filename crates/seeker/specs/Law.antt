@@ -6,6 +6,8 @@ use Prim.Native.Nat.{ℕ}
 use Rattle.std.specs.shelf.Lists.{All}
 use Rattle.std.specs.declared.option.Option.{Option}
 use Rattle.std.specs.declared.option.Option.the-variants.{Some, None}
+use Rattle.std.specs.declared.result.Result.the-variants.{Err}
+use Rattle.model.specs.declared.refusal.Refusal.the-variants.{NoSplit}
 use Rattle.model.specs.Task.{Task}
 use Rattle.model.specs.Verdict.{Verdict, accepted, overloaded, verdict}
 use Rattle.rows.specs.declared.bare.OpenRow.{OpenRow}
@@ -19,6 +21,10 @@ IsOverloaded v = (t : ℕ) × (v ≡ overloaded t)
 
 abbrev pub AcceptedOrOverloaded : Verdict → Type 0
 AcceptedOrOverloaded v = (v ≡ accepted) ⊎ IsOverloaded v
+
+-- the answer of a seek that began: it settled every row, or stopped at one
+abbrev pub Began : Verdict → Type 0
+Began v = (v ≡ accepted) ⊎ ((name : ℕ) × (v ≡ Err (NoSplit name)))
 
 module _ (rest : List Task) where
   -- the verdict on an open row with a split, after the rows settled before it

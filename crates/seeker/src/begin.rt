@@ -1,6 +1,5 @@
 //! What a seek refuses before it tries a row.
 ghost use mathlib.Core.Path.{_≡_};
-ghost use lib.ListN.{length};
 ghost use Rattle.std.specs.declared.option.Option.the-variants.{None};
 ghost use Rattle.model.specs.Round.{round-told};
 ghost use Rattle.model.specs.Rules.{first-fault};

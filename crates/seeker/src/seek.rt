@@ -1,10 +1,11 @@
 //! The seek: open rows settled beside a load.
 ghost use mathlib.Core.List.{[]};
+ghost use mathlib.Core.Logic.{_↔_};
 ghost use mathlib.Core.Path.{_≡_};
 ghost use lib.ListN.{length, take};
 ghost use Rattle.std.specs.declared.option.Option.the-variants.{None};
 ghost use Rattle.model.specs.Verdict.{accepted, verdict};
-ghost use Rattle.seeker.specs.Law.{AcceptedOrOverloaded, Law};
+ghost use Rattle.seeker.specs.Law.{AcceptedOrOverloaded, Began, Law};
 ghost use Rattle.seeker.specs.Queued.{queued};
 ghost use Rattle.seeker.specs.Refused.{ended, refused, seek-answers, seek-leaves, unready};
 ghost use Rattle.seeker.specs.Sought.{beside, over, passes, sought};
@@ -33,6 +34,7 @@ pub fn seek<S: Splitter, L: Load>(
 ) -> Result<(), Refusal>
     ensures answer { λ r. ⌜ r ≡ seek-answers (L·Load .tasks (now (rest .entry))) (S·Splitter .offers (now (splitter .entry))) (now (rows .entry)) (now (places .entry)) ⌝ }
     ensures places { λ _. ⌜ now (places .exit) ≡ seek-leaves (L·Load .tasks (now (rest .entry))) (S·Splitter .offers (now (splitter .entry))) (now (rows .entry)) (now (places .entry)) ⌝ }
+    ensures begun { λ r. ⌜ (refused (L·Load .tasks (now (rest .entry))) (now (rows .entry)) (length (now (places .entry))) ≡ None) ↔ Began r ⌝ }
     ensures law { λ r. ⌜ (refused (L·Load .tasks (now (rest .entry))) (now (rows .entry)) (length (now (places .entry))) ≡ None → Law (L·Load .tasks (now (rest .entry))) (S·Splitter .offers (now (splitter .entry))) (now (rows .entry)) (now (places .entry)) (now (places .exit)) r) ⌝ }
     ensures accepted { λ r. ⌜ (r ≡ accepted → verdict (beside (L·Load .tasks (now (rest .entry))) (take (length (now (rows .entry))) (now (places .exit)))) ≡ accepted) ⌝ }
     ensures alone { λ _. ⌜ (unready (L·Load .tasks (now (rest .entry))) (now (rows .entry)) (length (now (places .entry))) ≡ None → AcceptedOrOverloaded (verdict (L·Load .tasks (now (rest .entry))))) ⌝ }

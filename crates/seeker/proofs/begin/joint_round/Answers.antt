@@ -1,8 +1,8 @@
-use mathlib.Core.Path.{_≡_, refl, sym, ap, _∙_}
+use mathlib.Core.Path.{sym, ap, _∙_}
 use Prim.Native.Nat.{_+_}
 use native.Mathlib.Omega.{arith}
-use lib.ListN.{drop, getD}
-use Rattle.std.specs.declared.option.Option.the-variants.{Some, None}
+use lib.ListN.{drop}
+use Rattle.std.specs.declared.option.Option.the-variants.{Some}
 use Rattle.std.proofs.shelf.Lists.{at-drop-more, at-drop-all}
 use Rattle.seeker.specs.Queued.{no-row}
 use Rattle.seeker.proofs.Fits.{join-round, round-joined}

@@ -1,5 +1,5 @@
 use mathlib.Core.List.{[]}
-use mathlib.Core.Path.{_≡_, refl, sym, ap, _∙_}
+use mathlib.Core.Path.{_≡_, sym, ap, _∙_}
 use Prim.Native.Nat.{ℕ}
 use native.Mathlib.Omega.{arith}
 use lib.ListN.{length}
@@ -8,7 +8,7 @@ use Rattle.std.proofs.shelf.Results.{err-from-errBy}
 use Rattle.seeker.specs.Queued.{queued}
 use Rattle.seeker.specs.Refused.{answer, leaves, refused}
 use Rattle.seeker.specs.Sought.{passes, sought}
-use Rattle.seeker.proofs.Begins.{not-refused, refused-by}
+use Rattle.seeker.proofs.Begins.{begins, not-refused, refused-by}
 use Rattle.seeker.proofs.Lawful.{law, all-pass, rest-decided}
 use Rattle.seeker.proofs.seek.seek.Needs as need
 
@@ -20,8 +20,10 @@ returns-in-Break-begin g c =
     let s = sought (passes rest) (g .S·Splitter .offers (c .args .splitter .now)) (queued rows) [] in
     let p = err-from-errBy (c .from-residual .result) (c .from-residual .ensures .1) in
     let is : refused rest rows (length places) ≡ Some (c .in-Break-begin .field-0 .0) = refused-by _ _ (c .in-Break-begin .ensures tt) in
+    let told : c .from-residual .result ≡ answer (refused rest rows (length places)) s = rw (p .1, p .2) (sym (ap (λ f. answer f s) is)) in
     record {
-      answer = rw (p .1, p .2) (sym (ap (λ f. answer f s) is));
+      answer = told;
+      begun = begins rest rows (length places) s _ told;
       places = sym (ap (λ f. leaves f places s) is);
       law = λ h. let z : _≡_ {A = ℕ} 0 1 = cc in absurd (omega arith);
       accepted = λ h. let q = p .1 in let z : _≡_ {A = ℕ} 0 1 = cc in absurd (omega arith);
@@ -39,8 +41,10 @@ returns g c =
     let is : refused rest rows (length places) ≡ None = not-refused _ _ (c .in-Continue-begin .ensures tt) in
     let e = c .seek-in-order .ensures in
     let by-law = law rest lawful rows (length places) offers (g .S·Splitter .lawful (c .args .splitter .now)) is places (c .seek-in-order .last .places) (c .seek-in-order .result) (e .answer) (e .places) in
+    let told : c .seek-in-order .result ≡ answer (refused rest rows (length places)) s = e .answer ∙ sym (ap (λ f. answer f s) is) in
     record {
-      answer = e .answer ∙ sym (ap (λ f. answer f s) is);
+      answer = told;
+      begun = begins rest rows (length places) s _ told;
       places = e .places ∙ sym (ap (λ f. leaves f places s) is);
       law = λ h. by-law;
       accepted = all-pass rest lawful rows (length places) offers (g .S·Splitter .lawful (c .args .splitter .now)) is _ _ _ by-law;

@@ -1,6 +1,4 @@
-use Prim.Native.Nat.{ℕ}
-use borrow.Author.Needs.{needs}
-use mathlib.Core.Path.{_∙_, _≡_, ap, sym}
+use mathlib.Core.Path.{_∙_, ap, sym}
 use mathlib.Core.Bool.{cond}
 use lib.ListN.{set}
 use Rattle.std.proofs.shelf.Lists.{take-more-set}
