@@ -1,14 +1,49 @@
 //! Each row of a table: the numbers, and the refusal that they get, 0 for none.
-use crate::bounded;
-use crate::factor;
-use crate::open;
-use crate::plain;
-use crate::settled;
-use crate::table_number;
+use loads::factor::Factor;
+use loads::table::Table;
+use model::refusal::Refusal;
 use rows::bare::PlainBare;
 use rows::bare::PlainKind;
 use rows::bare::PlainRow;
+use rows::bounded::Bounded;
+use rows::kind::Bare;
+use rows::open::Open;
+use rows::plain::Plain;
+use rows::settled::Settled;
 use std::test::*;
+
+/// The number of a refusal, 0 where there is none.
+fn number<T: Drop>(made: Result<T, Refusal>) -> u8 {
+    match made {
+        Ok(_) => 0,
+        Err(refusal) => refusal.number(),
+    }
+}
+
+/// The number by which a table of the rows is refused, 0 where it is made.
+fn table_number<R: Bare>(rows: &[R]) -> u8 {
+    number(Table::new(rows))
+}
+
+fn plain(row: (u64, u64, u64)) -> u8 {
+    number(Plain::new(7, row.0, row.1, row.2))
+}
+
+fn open(row: (u64, u64, u64, u64)) -> u8 {
+    number(Open::new(7, row.0, row.1, row.2, row.3))
+}
+
+fn settled(row: (u64, u64, u64, u64), split: u64) -> u8 {
+    number(Settled::new(7, row.0, row.1, row.2, row.3, split))
+}
+
+fn bounded(costs: (u64, u64, u64), spacing: u64, wait: u64, split: u64) -> u8 {
+    number(Bounded::new(7, spacing, costs.0, costs.1, costs.2, wait, split))
+}
+
+fn factor(value: u64) -> u8 {
+    number(Factor::new(value))
+}
 
 const MAX: u64 = u64::MAX;
 

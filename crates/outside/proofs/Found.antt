@@ -16,7 +16,7 @@ use Rattle.model.specs.Rows.{From, plain-asks}
 use Rattle.model.specs.Round.{gcd-in, lcm, round, round-told}
 use Rattle.model.specs.Task.{Task}
 use Rattle.model.proofs.Asked.Places.{found-in, found-past}
-use Rattle.model.proofs.Demand.Rows.{plain-demand}
+use Rattle.model.proofs.Demand.Rows.{plain-demand as plain-formula}
 use Rattle.model.proofs.Tests.{if-le}
 use Rattle.outside.specs.Pen.{clock-task, stroke-task, pen-tasks}
 
@@ -43,7 +43,7 @@ module _ (a b : ℕ) (ok : From 1 a 20) (i t n : ℕ) (h : t ≤ 1000000) where
   clock-told e is =
       let few : (t - 20) / 20 + 1 ≤ 1000001 = omega (arith, div-le-self (t - 20) 20) in
       let top : n ≤ 100000000000000 = omega (arith, is, if-le, mul-le a ((t - 20) / 20 + 1) 20 1000001 (omega arith) few) in
-      told-at (clock-task a) t n h top (is ∙ sym (plain-demand 20 20 a (omega arith) t)) ∙ ap (λ o. demand-told o t) (sym (found-clock a b i e))
+      told-at (clock-task a) t n h top (is ∙ sym (plain-formula 20 20 a (omega arith) t)) ∙ ap (λ o. demand-told o t) (sym (found-clock a b i e))
 
   pub stroke-told : i ≡ 1 → n ≡ demand (stroke-task b) t → n ≤ 15000930 → Some n ≡ demand-told (found (pen-tasks a b) i) t
   stroke-told e is top = told-at (stroke-task b) t n h (omega arith) is ∙ ap (λ o. demand-told o t) (sym (found-stroke a b i e))

@@ -41,8 +41,8 @@ fn show_row<R: Row + Drop>(
 
 fn show_demand<R: Row>(rt: &LibcRuntime, row: &R, length: u64) -> io::Result<()> {
     match row.demand(length) {
-        Some(demand) => println!(rt, "  length {length}: demand {demand}"),
-        None => println!(rt, "  length {length}: no answer"),
+        Some(demand) => println!(rt, "  demand at {length}: {demand}"),
+        None => println!(rt, "  demand at {length}: no answer"),
     }
 }
 
