@@ -341,35 +341,21 @@ fn rows_before_a_fault_stay() -> Result<(), Fail> {
         3,
         Layer::Frame,
     )?;
-    check_eq(
-        (
-            plains[0].name,
-            plains[0].spacing,
-            plains[0].due,
-            plains[0].cost,
-        ),
-        (1, 5, 5, 1),
-    )?;
-    check_eq(
-        (
-            opens[0].name,
-            opens[0].spacing,
-            opens[0].first,
-            opens[0].wait,
-        ),
-        (2, 10, 1, 8),
-    )?;
-    check_eq(opens[0].second, 1)?;
-    check_eq((plains[1].name, opens[1].name, boundeds[0].name), (9, 9, 9))
+    let first = plains[0];
+    check(first.name == 1 && first.spacing == 5 && first.due == 5 && first.cost == 1)?;
+    let second = opens[0];
+    check(second.name == 2 && second.spacing == 10 && second.first == 1)?;
+    check(second.wait == 8 && second.second == 1)?;
+    check(plains[1].name == 9 && opens[1].name == 9 && boundeds[0].name == 9)
 }
 
 #[test]
 fn texts_are_accepted() -> Result<(), Fail> {
     let none = read(b"").ok().ok_or("refused")?;
-    check_eq((none.plains, none.opens, none.boundeds), (0, 0, 0))?;
+    check(none.plains == 0 && none.opens == 0 && none.boundeds == 0)?;
     let three = read(
             b"03FF271003E807D00BB80FA003E8\n0202000A000100080001\n0303001E0004000700090008000A\n",
         ).ok()
         .ok_or("refused")?;
-    check_eq((three.plains, three.opens, three.boundeds), (0, 1, 2))
+    check(three.plains == 0 && three.opens == 1 && three.boundeds == 2)
 }

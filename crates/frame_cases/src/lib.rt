@@ -1,3 +1,5 @@
-//! Texts and lines tried on frames.
+//! Texts and lines tried on the reader and the writers.
 #[cfg(test)]
 mod faults;
+#[cfg(test)]
+mod written;
