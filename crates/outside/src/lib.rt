@@ -35,7 +35,9 @@ mod tests {
 
     #[test]
     fn a_pen_is_asked() -> Result<(), Fail> {
-        let pen = Pen::new(2, 4).ok_or("no pen")?;
+        let Some(pen) = Pen::new(2, 4) else {
+            return Err(Fail::new("no pen"));
+        };
         check_eq(pen.count(), 2)?;
         check_eq(pen.round(), Some(60))?;
         check_eq(pen.piece(1, 2), Some((20, 4, 30)))?;

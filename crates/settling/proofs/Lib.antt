@@ -1,0 +1,4 @@
+pub mod Printed
+pub mod Settles
+pub mod Tables
+pub mod Outcomes
