@@ -5,7 +5,9 @@ set -euo pipefail
 top="$(cd "$(dirname "${BASH_SOURCE[0]}")/../.." && pwd)"
 scratch="$(mktemp -d)"
 trap 'rm -rf "$scratch"' EXIT
-cp -a "$top/crates" "$top/crates.txt" "$top/target" "$scratch/"
+cp -a "$top/crates" "$top/crates.txt" "$scratch/"
+mkdir "$scratch/target"
+cp -a "$top/target/rlib" "$top/target/stamp" "$top/target/log" "$scratch/target/"
 cd "$scratch"
 echo "misuse: model rows loads check" >> crates.txt
 mkdir -p crates/misuse/src
