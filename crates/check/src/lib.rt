@@ -1,4 +1,6 @@
 //! The check: does the demand of a load ever exceed the length of a window?
+#![tactic(auto)]
+
 ghost use Rattle.std.specs.Prelude.{◌≡◌};
 ghost use Rattle.model.specs.Promise.{Agreement};
 ghost use Rattle.model.specs.Verdict.{by_length, verdict};

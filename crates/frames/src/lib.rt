@@ -1,4 +1,6 @@
 //! Frames: rows as lines of hexadecimal text, read into tables.
+#![tactic(auto)]
+
 pub mod digits;
 pub mod fault;
 pub mod frame;

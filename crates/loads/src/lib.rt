@@ -1,4 +1,6 @@
 //! Loads: whatever means a list of tasks, asked through one set of questions.
+#![tactic(auto)]
+
 pub mod factor;
 pub mod lent;
 pub mod load;

@@ -1,4 +1,6 @@
 //! The machine: it runs the jobs of a load's tasks tick by tick, earliest deadline first.
+#![tactic(auto)]
+
 pub mod answer;
 mod calls;
 mod clock;

@@ -1,5 +1,7 @@
 //! A load from outside: two tasks held in plain fields, one of them with three pieces.
 //! It shows that whatever proves its answers goes through the check unchanged.
+#![tactic(auto)]
+
 pub mod load;
 pub mod pen;
 

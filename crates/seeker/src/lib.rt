@@ -1,4 +1,6 @@
 //! The seeker: settles open rows beside a load, each with the first of its splits that passes.
+#![tactic(auto)]
+
 mod begin;
 mod judge;
 mod order;

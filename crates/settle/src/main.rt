@@ -1,4 +1,6 @@
 //! Settles the frames that it reads, and prints the answer.
+#![tactic(auto)]
+
 use settling::settle::settle;
 use std::io;
 use std::io::{Read, Write};

@@ -1,4 +1,6 @@
 //! Runs the worked tables through the library and prints what it computes.
+#![tactic(auto)]
+
 mod checks_shown;
 mod machine_shown;
 mod rows_shown;
