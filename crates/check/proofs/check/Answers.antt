@@ -16,10 +16,10 @@ returns-then-count-gt32 g c =
     let e = sym (verdict_many ks (omega arith)) in
     record { answer = e; promise = agreed ks (g.L.Load.lawful c.args.load.now) _ e }
 
-pub returns-in-default : goal.returns-in-default
-returns-in-default g c =
+pub returns-in_default : goal.returns-in_default
+returns-in_default g c =
     let ks = g.L.Load.tasks c.args.load.now in
-    let e = sym (verdict_told ks None (omega arith) c.in-default.ensures) in
+    let e = sym (verdict_told ks None (omega arith) c.in_default.ensures) in
     record { answer = e; promise = agreed ks (g.L.Load.lawful c.args.load.now) _ e }
 
 pub lengths-init : goal.lengths-init
@@ -36,7 +36,7 @@ loop-task-preserved g c =
     let ks = g.L.Load.tasks c.args.load.now in
     let task = c.loop-task.task in
     let r = told_range ks c.in-Some.round (g.L.Load.lawful c.args.load.now) c.in-Some.ensures in
-    let is : c.unwrap-or-demand.result ≡ unwrap_or (demand_told (found ks task) c.lengths.length) 0 = c.unwrap-or-demand.ensures ∙ ap (λ o. unwrap_or o 0) c.demand.ensures in
+    let is : c.unwrap_or-demand.result ≡ unwrap_or (demand_told (found ks task) c.lengths.length) 0 = c.unwrap_or-demand.ensures ∙ ap (λ o. unwrap_or o 0) c.demand.ensures in
     let near : c.lengths.length ≤ 1000000 = omega (arith, r.1) in
     let here : task < length ks = omega arith in
     let low : task < 32 = omega arith in (

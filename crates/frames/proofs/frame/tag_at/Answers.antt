@@ -9,4 +9,4 @@ returns-then-text-eq0 c = tag_none c.args.line c.args.text.now c.if-text-eq0.tru
 pub returns : goal.returns
 returns c =
     let text = c.args.text.now in
-    ap Tag c.byte-at.ensures ∙ tag_some c.args.line text c.if-text-eq0.false (spells_even text c.requires)
+    ap Tag c.byte_at.ensures ∙ tag_some c.args.line text c.if-text-eq0.false (spells_even text c.requires)

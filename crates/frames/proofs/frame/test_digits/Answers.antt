@@ -2,8 +2,8 @@ use Rattle.std.proofs.Common.{◌≡◌, true, sym, ◌∙◌, arith}
 use Rattle.frames.proofs.Steps.{digits_more, digits_stop, digits_end, digits_bad, digits_odd, digits_good}
 use Rattle.frames.proofs.frame.test_digits.Goals as goal
 
-pub returns-then-value-of-ge16 : goal.returns-then-value-of-ge16
-returns-then-value-of-ge16 c =
+pub returns-then-value_of-ge16 : goal.returns-then-value_of-ge16
+returns-then-value_of-ge16 c =
     let text = c.args.text.now in
     digits_bad c.args.line text (sym c.loop-byte.invariant ∙ digits_stop text c.loop-byte.byte-index c.loop-byte-test.true (omega arith))
 

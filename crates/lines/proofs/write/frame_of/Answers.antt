@@ -13,7 +13,7 @@ loop-k-preserved c =
     let six : length c.args.fields ≡ 6 = search rules in (
       simp length-set c.loop-k.invariant.0,
       frame_more c.loop-k.frame c.args.fields c.args.tag c.args.name c.loop-k.k _ _ (omega (arith, c.loop-k.invariant.0)) (omega arith) c.loop-k.invariant.1
-          (ap (λ (l : List ℕ). get_or l 6 0) c.to-be-bytes-bytes.ensures) (ap (λ (l : List ℕ). get_or l 7 0) c.to-be-bytes-bytes.ensures),
+          (ap (λ (l : List ℕ). get_or l 6 0) c.to_be_bytes-bytes.ensures) (ap (λ (l : List ℕ). get_or l 7 0) c.to_be_bytes-bytes.ensures),
       short_more c.args.fields c.loop-k.k (omega arith) (omega arith) ∙ c.loop-k.invariant.2,
     )
 

@@ -17,17 +17,17 @@ lcm_by : (a b g : ℕ) → g ≡ gcd a b → a / g * b ≡ lcm a b
 unfolding lcm
 lcm_by a b g e = ap (λ n. a / n * b) e
 
-pub nonzero-div-a : goal.nonzero-div-a
-nonzero-div-a c = rw c.greatest-divisor.ensures (gcd_pos c.args.a c.args.b (omega arith) (omega arith))
+pub nonzero_div-a : goal.nonzero_div-a
+nonzero_div-a c = rw c.greatest_divisor.ensures (gcd_pos c.args.a c.args.b (omega arith) (omega arith))
 
 pub returns-then-a-eq0 : goal.returns-then-a-eq0
 returns-then-a-eq0 c = told_some _ _ (elim c.then-a-eq0.either [ inl z ↦ lcm_from_zero _ _ z | inr z ↦ lcm_to_zero _ _ z.1 ]) (omega arith)
 
-pub returns-in-err-least : goal.returns-in-err-least
-returns-in-err-least c = c.from-residual.ensures ∙ told_none _ _ (lcm_by c.args.a c.args.b _ c.greatest-divisor.ensures) (omega (arith, c.in-err-least.ensures))
+pub returns-in_err-least : goal.returns-in_err-least
+returns-in_err-least c = c.from_residual.ensures ∙ told_none _ _ (lcm_by c.args.a c.args.b _ c.greatest_divisor.ensures) (omega (arith, c.in_err-least.ensures))
 
 pub returns-then-least-le100000 : goal.returns-then-least-le100000
-returns-then-least-le100000 c = told_some _ _ (c.in-ok-least.ensures.1 ∙ lcm_by c.args.a c.args.b _ c.greatest-divisor.ensures) c.if-least-le100000.true
+returns-then-least-le100000 c = told_some _ _ (c.in_ok-least.ensures.1 ∙ lcm_by c.args.a c.args.b _ c.greatest_divisor.ensures) c.if-least-le100000.true
 
 pub returns-else-least-le100000 : goal.returns-else-least-le100000
-returns-else-least-le100000 c = told_none _ _ (c.in-ok-least.ensures.1 ∙ lcm_by c.args.a c.args.b _ c.greatest-divisor.ensures) c.if-least-le100000.false
+returns-else-least-le100000 c = told_none _ _ (c.in_ok-least.ensures.1 ∙ lcm_by c.args.a c.args.b _ c.greatest_divisor.ensures) c.if-least-le100000.false

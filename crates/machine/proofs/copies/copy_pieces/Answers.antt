@@ -13,7 +13,7 @@ returns-after-loop-count g c =
     let ts = g.L.Load.tasks c.args.load.now in
     copy_all (found ts c.args.task) c.loop-count.count c.loop-count.pieces (omega arith) (rightful_at ts (g.L.Load.lawful c.args.load.now) c.args.task) c.loop-count.invariant.1
 
-pub returns-in-default : goal.returns-in-default
-returns-in-default g c =
+pub returns-in_default : goal.returns-in_default
+returns-in_default g c =
     let ts = g.L.Load.tasks c.args.load.now in
-    copy_stop (found ts c.args.task) c.loop-count.count c.loop-count.pieces c.in-default.ensures c.loop-count.invariant.1
+    copy_stop (found ts c.args.task) c.loop-count.count c.loop-count.pieces c.in_default.ensures c.loop-count.invariant.1

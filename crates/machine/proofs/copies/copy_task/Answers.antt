@@ -2,13 +2,13 @@ use Rattle.model.specs.Asked.{found}
 use Rattle.machine.proofs.Copying.{owed, copied_task, rightful_at}
 use Rattle.machine.proofs.copies.copy_task.Goals as goal
 
-pub invariant-of-result : goal.invariant-of-result
-invariant-of-result g c =
+pub invariant_of-result : goal.invariant_of-result
+invariant_of-result g c =
     let ts = g.L.Load.tasks c.args.load.now in
     let i = c.args.task in
-    owed (found ts i) c.in-Some.spacing c.copy-pieces-few.result.count c.copy-pieces-few.result.pieces (rightful_at ts (g.L.Load.lawful c.args.load.now) i) c.in-Some.ensures c.copy-pieces-few.ensures
+    owed (found ts i) c.in-Some.spacing c.copy_pieces-few.result.count c.copy_pieces-few.result.pieces (rightful_at ts (g.L.Load.lawful c.args.load.now) i) c.in-Some.ensures c.copy_pieces-few.ensures
 
 pub returns : goal.returns
 returns g c =
     let ts = g.L.Load.tasks c.args.load.now in
-    copied_task (found ts c.args.task) c.in-Some.spacing c.in-Some-total.total c.copy-pieces-few.result.count c.copy-pieces-few.result.pieces c.in-Some.ensures c.in-Some-total.ensures c.copy-pieces-few.ensures
+    copied_task (found ts c.args.task) c.in-Some.spacing c.in-Some-total.total c.copy_pieces-few.result.count c.copy_pieces-few.result.pieces c.in-Some.ensures c.in-Some-total.ensures c.copy_pieces-few.ensures

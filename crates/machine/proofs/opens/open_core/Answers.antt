@@ -4,7 +4,7 @@ use Rattle.machine.specs.declared.entry.Entry.{Entry}
 use Rattle.model.proofs.Told.Runs.{told_suffices}
 use Rattle.machine.proofs.Opening.{Filled, allowed, fill_more, filled_all, never_none}
 use Rattle.machine.proofs.opens.open_core.Goals as goal
-use Rattle.machine.proofs.opens.open_core.Goals.{in-Some, in-default}
+use Rattle.machine.proofs.opens.open_core.Goals.{in-Some, in_default}
 
 pub loop-i-preserved : goal.loop-i-preserved
 loop-i-preserved g c =
@@ -12,10 +12,10 @@ loop-i-preserved g c =
     let i = c.loop-i.i in
     let within : i < length ts = omega arith in
     let low : i < 32 = omega arith in
-    elim c.match-copy-task.branch [
+    elim c.match-copy_task.branch [
       | in-Some w ↦ subst (λ (es : List Entry). Filled ts es (i + 1)) (sym w.entries-is)
-          (fill_more ts c.loop-i.entries i w.at-rest.result w.in-Some.task low within w.at-rest.ensures.rest w.at-rest.ensures.task w.in-Some.ensures c.loop-i.invariant)
-      | in-default w ↦ absurd (never_none ts i low within w.in-default.ensures)
+          (fill_more ts c.loop-i.entries i w.at_rest.result w.in-Some.task low within w.at_rest.ensures.rest w.at_rest.ensures.task w.in-Some.ensures c.loop-i.invariant)
+      | in_default w ↦ absurd (never_none ts i low within w.in_default.ensures)
     ]
 
 pub returns : goal.returns

@@ -4,26 +4,26 @@ use Rattle.seeker.specs.Queued.{no_row}
 use Rattle.seeker.proofs.Fits.{join_round, round_joined}
 use Rattle.seeker.proofs.begin.joint_round.Goals as goal
 
-pub returns-in-err-round : goal.returns-in-err-round
-returns-in-err-round g c =
+pub returns-in_err-round : goal.returns-in_err-round
+returns-in_err-round g c =
     let rows = c.args.rows.now in
-    c.from-residual.ensures ∙ ap (λ f. join_round f rows) c.in-err-round.ensures ∙ round_joined (g.L.Load.tasks c.args.rest.now) rows (g.L.Load.lawful c.args.rest.now) c.requires
+    c.from_residual.ensures ∙ ap (λ f. join_round f rows) c.in_err-round.ensures ∙ round_joined (g.L.Load.tasks c.args.rest.now) rows (g.L.Load.lawful c.args.rest.now) c.requires
 
-pub returns-in-err-round-2 : goal.returns-in-err-round-2
-returns-in-err-round-2 g c =
+pub returns-in_err-round-2 : goal.returns-in_err-round-2
+returns-in_err-round-2 g c =
     let rows = c.args.rows.now in
     let i = c.loop-row.row-index in
-    c.from-residual-in-err-round-2.ensures ∙ ap (λ f. join_round f (drop (i + 1) rows)) c.in-err-round-2.ensures ∙ sym (at_drop_more (join_round (Some c.loop-row.round)) rows i no_row (omega arith)) ∙ c.loop-row.invariant
+    c.from_residual-in_err-round-2.ensures ∙ ap (λ f. join_round f (drop (i + 1) rows)) c.in_err-round-2.ensures ∙ sym (at_drop_more (join_round (Some c.loop-row.round)) rows i no_row (omega arith)) ∙ c.loop-row.invariant
     ∙ round_joined (g.L.Load.tasks c.args.rest.now) rows (g.L.Load.lawful c.args.rest.now) c.requires
 
 pub loop-row-init : goal.loop-row-init
-loop-row-init g c = ap (λ f. join_round f c.args.rows.now) c.in-ok-round.ensures
+loop-row-init g c = ap (λ f. join_round f c.args.rows.now) c.in_ok-round.ensures
 
 pub loop-row-preserved : goal.loop-row-preserved
 loop-row-preserved g c =
     let rows = c.args.rows.now in
     let i = c.loop-row.row-index in
-    ap (λ f. join_round f (drop (i + 1) rows)) c.in-ok-round-2.ensures ∙ sym (at_drop_more (join_round (Some c.loop-row.round)) rows i no_row (omega arith)) ∙ c.loop-row.invariant
+    ap (λ f. join_round f (drop (i + 1) rows)) c.in_ok-round-2.ensures ∙ sym (at_drop_more (join_round (Some c.loop-row.round)) rows i no_row (omega arith)) ∙ c.loop-row.invariant
 
 pub returns : goal.returns
 returns g c =

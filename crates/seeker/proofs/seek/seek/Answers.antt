@@ -7,15 +7,15 @@ use Rattle.seeker.proofs.Begins.{begins, not_refused, refused_by}
 use Rattle.seeker.proofs.Lawful.{law, all_pass, rest_decided}
 use Rattle.seeker.proofs.seek.seek.Goals as goal
 
-pub returns-in-err-begin : goal.returns-in-err-begin
-returns-in-err-begin g c =
+pub returns-in_err-begin : goal.returns-in_err-begin
+returns-in_err-begin g c =
     let rest = g.L.Load.tasks c.args.rest.now in
     let rows = c.args.rows.now in
     let places = c.args.places.now in
     let s = sought (passes rest) (g.S.Splitter.offers c.args.splitter.now) (queued rows) [] in
-    let p = err_from_is_err_and c.from-residual.result c.from-residual.ensures.1 in
-    let is : refused rest rows (length places) ≡ Some c.in-err-begin.field-0.0 = refused_by _ _ c.in-err-begin.ensures in
-    let told : c.from-residual.result ≡ answer (refused rest rows (length places)) s = rw (p.1, p.2) (sym (ap (λ f. answer f s) is)) in
+    let p = err_from_is_err_and c.from_residual.result c.from_residual.ensures.1 in
+    let is : refused rest rows (length places) ≡ Some c.in_err-begin.field-0.0 = refused_by _ _ c.in_err-begin.ensures in
+    let told : c.from_residual.result ≡ answer (refused rest rows (length places)) s = rw (p.1, p.2) (sym (ap (λ f. answer f s) is)) in
     record {
       answer = told;
       begun = begins rest rows (length places) s _ told;
@@ -33,10 +33,10 @@ returns g c =
     let places = c.args.places.now in
     let lawful = g.L.Load.lawful c.args.rest.now in
     let s = sought (passes rest) offers (queued rows) [] in
-    let is : refused rest rows (length places) ≡ None = not_refused _ _ c.in-ok-begin.ensures in
-    let e = c.seek-in-order.ensures in
-    let by-law = law rest lawful rows (length places) offers (g.S.Splitter.lawful c.args.splitter.now) is places c.seek-in-order.new.places c.seek-in-order.result e.answer e.places in
-    let told : c.seek-in-order.result ≡ answer (refused rest rows (length places)) s = e.answer ∙ sym (ap (λ f. answer f s) is) in
+    let is : refused rest rows (length places) ≡ None = not_refused _ _ c.in_ok-begin.ensures in
+    let e = c.seek_in_order.ensures in
+    let by-law = law rest lawful rows (length places) offers (g.S.Splitter.lawful c.args.splitter.now) is places c.seek_in_order.new.places c.seek_in_order.result e.answer e.places in
+    let told : c.seek_in_order.result ≡ answer (refused rest rows (length places)) s = e.answer ∙ sym (ap (λ f. answer f s) is) in
     record {
       answer = told;
       begun = begins rest rows (length places) s _ told;

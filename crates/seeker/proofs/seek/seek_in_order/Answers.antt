@@ -11,13 +11,13 @@ use Rattle.seeker.proofs.Lawful.{judged_alike}
 use Rattle.seeker.proofs.Queues.{all_queued}
 use Rattle.seeker.proofs.seek.seek_in_order.Goals as goal
 
-pub settle-rows-requires : goal.settle-rows-requires
-settle-rows-requires g c =
+pub settle_rows-requires : goal.settle_rows-requires
+settle_rows-requires g c =
     let rows = c.args.rows.now in
     let r = (begun (g.L.Load.tasks c.args.rest.now) rows (length c.args.places.now) c.requires.begun).0 in
     record {
       room = omega (arith, r.room, c.requires.same);
-      lawful = subst (All (λ o. open_breaks o ≡ None)) (sym c.order-rows.ensures) (all_queued (λ o. open_breaks o ≡ None) rows (each_keeps open_breaks rows r.lawful));
+      lawful = subst (All (λ o. open_breaks o ≡ None)) (sym c.order_rows.ensures) (all_queued (λ o. open_breaks o ≡ None) rows (each_keeps open_breaks rows r.lawful));
     }
 
 pub returns : goal.returns
@@ -25,10 +25,10 @@ returns g c =
     let rest = g.L.Load.tasks c.args.rest.now in
     let offers = g.S.Splitter.offers c.args.splitter.now in
     let rows = c.args.rows.now in
-    let alike : sought (judged rest) offers c.order-rows.new.out [] ≡ sought (passes rest) offers (queued rows) [] =
-    ap (λ os. sought (judged rest) offers os []) c.order-rows.ensures
+    let alike : sought (judged rest) offers c.order_rows.new.out [] ≡ sought (passes rest) offers (queued rows) [] =
+    ap (λ os. sought (judged rest) offers os []) c.order_rows.ensures
     ∙ judged_alike rest (g.L.Load.lawful c.args.rest.now) rows (length c.args.places.now) offers (g.S.Splitter.lawful c.args.splitter.now) c.requires.begun in
     record {
-      answer = c.settle-rows.ensures.answer ∙ ap (λ (s : Sought). ended s.stuck) alike;
-      places = c.settle-rows.ensures.places ∙ ap (λ (s : Sought). over s.settled c.args.places.now) alike;
+      answer = c.settle_rows.ensures.answer ∙ ap (λ (s : Sought). ended s.stuck) alike;
+      places = c.settle_rows.ensures.places ∙ ap (λ (s : Sought). over s.settled c.args.places.now) alike;
     }

@@ -11,10 +11,10 @@ use Rattle.seeker.specs.Steps.{bare}
 use Rattle.seeker.proofs.Seeks.{going_more, going_stuck, going_all}
 use Rattle.seeker.proofs.settle.settle_rows.Goals as goal
 
-pub returns-in-err-open : goal.returns-in-err-open
-returns-in-err-open g c =
+pub returns-in_err-open : goal.returns-in_err-open
+returns-in_err-open g c =
     let h : open_breaks (get_or c.args.rows.now c.loop-k.k no_row) ≡ None = All-get_or (λ o. open_breaks o ≡ None) c.args.rows.now c.loop-k.k no_row (omega arith) c.requires.lawful in
-    let b = c.in-err-open.ensures in
+    let b = c.in_err-open.ensures in
     let z : ◌≡◌ {A = ℕ} 0 1 = cc in
     absurd (omega arith)
 
@@ -28,22 +28,22 @@ loop-k-preserved g c =
     let pass = g.J.Judge.accepts c.args.judge.now in
     let offers = g.S.Splitter.offers c.args.splitter.now in
     let os = c.args.rows.now in
-    let t = c.if-not-settle-row.ensures in
-    let e = c.in-ok-open.ensures in
-    let same : get_or os l.k no_row ≡ bare c.in-ok-open.open = same_row c.in-ok-open.open _ e.1 e.2 e.3 e.4 e.5 in
-    going_more pass offers os c.args.places.now l.k l.places (get_or os l.k no_row) (drop_more os l.k no_row (omega arith)) (omega arith) l.invariant c.settle-row.new.places _
+    let t = c.if-not-settle_row.ensures in
+    let e = c.in_ok-open.ensures in
+    let same : get_or os l.k no_row ≡ bare c.in_ok-open.open = same_row c.in_ok-open.open _ e.1 e.2 e.3 e.4 e.5 in
+    going_more pass offers os c.args.places.now l.k l.places (get_or os l.k no_row) (drop_more os l.k no_row (omega arith)) (omega arith) l.invariant c.settle_row.new.places _
     (ap (λ o. first_passing pass (take l.k l.places) o (candidates offers o)) same) t.kept t.places
 
-pub returns-then-not-settle-row : goal.returns-then-not-settle-row
-returns-then-not-settle-row g c =
+pub returns-then-not-settle_row : goal.returns-then-not-settle_row
+returns-then-not-settle_row g c =
     let l = c.loop-k in
     let pass = g.J.Judge.accepts c.args.judge.now in
     let offers = g.S.Splitter.offers c.args.splitter.now in
     let os = c.args.rows.now in
-    let t = c.if-not-settle-row.ensures in
-    let e = c.in-ok-open.ensures in
-    let same : get_or os l.k no_row ≡ bare c.in-ok-open.open = same_row c.in-ok-open.open _ e.1 e.2 e.3 e.4 e.5 in
-    let r = going_stuck pass offers os c.args.places.now l.k l.places (get_or os l.k no_row) (drop_more os l.k no_row (omega arith)) (omega arith) l.invariant c.settle-row.new.places _
+    let t = c.if-not-settle_row.ensures in
+    let e = c.in_ok-open.ensures in
+    let same : get_or os l.k no_row ≡ bare c.in_ok-open.open = same_row c.in_ok-open.open _ e.1 e.2 e.3 e.4 e.5 in
+    let r = going_stuck pass offers os c.args.places.now l.k l.places (get_or os l.k no_row) (drop_more os l.k no_row (omega arith)) (omega arith) l.invariant c.settle_row.new.places _
     (ap (λ o. first_passing pass (take l.k l.places) o (candidates offers o)) same) t.kept t.places in
     record { answer = ap ended r.0; places = r.1 }
 

@@ -6,8 +6,8 @@ use Rattle.settling.specs.Settled.{settled_lines, rest_of}
 use Rattle.settling.proofs.Settles.{Keeps, all_keep, shown}
 use Rattle.settling.proofs.settle.settle_rows.Goals as goal
 
-pub settled-lines-requires : goal.settled-lines-requires
-settled-lines-requires c =
+pub settled_lines-requires : goal.settled_lines-requires
+settled_lines-requires c =
     let e = c.in-Ok.ensures in
     subst (λ (l : List SettledRow). All Keeps (take (length c.args.opens.now - 0) l)) (sym e.places)
     (all_keep (rest_of c.args.plains.now c.args.boundeds.now) c.args.opens.now c.args.places.now _ e.answer (length c.args.opens.now - 0) (omega arith))
@@ -15,7 +15,7 @@ settled-lines-requires c =
 pub returns-in-Ok : goal.returns-in-Ok
 returns-in-Ok c =
     let e = c.in-Ok.ensures in
-    IfOk-weaker c.settled-lines.result _ _
+    IfOk-weaker c.settled_lines.result _ _
     (λ v is. is ∙ ap (λ (l : List SettledRow). settled_lines (take (length c.args.opens.now - 0) l)) e.places
     ∙ shown (rest_of c.args.plains.now c.args.boundeds.now) c.args.opens.now c.args.places.now _ e.answer (length c.args.opens.now - 0) (omega arith) c.requires.places)
-    c.settled-lines.ensures
+    c.settled_lines.ensures

@@ -6,10 +6,10 @@ pub returns : goal.returns
 returns g c =
     let s = c.args.self.now in
     let low : 1 ≤ s.factor.value = omega (arith, s.factor.ok.0) in
-    ap Some c.times.ensures ∙ ap (times s.factor.value) c.in-ok-total.ensures ∙ sym (total_found _ low (g.L.Load.tasks s.load) c.args.task)
+    ap Some c.times.ensures ∙ ap (times s.factor.value) c.in_ok-total.ensures ∙ sym (total_found _ low (g.L.Load.tasks s.load) c.args.task)
 
-pub returns-in-err-total : goal.returns-in-err-total
-returns-in-err-total g c =
+pub returns-in_err-total : goal.returns-in_err-total
+returns-in_err-total g c =
     let s = c.args.self.now in
     let low : 1 ≤ s.factor.value = omega (arith, s.factor.ok.0) in
-    c.from-residual.ensures ∙ ap (times s.factor.value) c.in-err-total.ensures ∙ sym (total_found _ low (g.L.Load.tasks s.load) c.args.task)
+    c.from_residual.ensures ∙ ap (times s.factor.value) c.in_err-total.ensures ∙ sym (total_found _ low (g.L.Load.tasks s.load) c.args.task)

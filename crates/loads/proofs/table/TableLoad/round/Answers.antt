@@ -7,16 +7,16 @@ pub loop-row-init : goal.loop-row-init
 unfolding round
 loop-row-init g c = (refl, omega arith, omega arith)
 
-pub returns-in-err-round : goal.returns-in-err-round
-returns-in-err-round g c =
-    c.from-residual.ensures
+pub returns-in_err-round : goal.returns-in_err-round
+returns-in_err-round g c =
+    c.from_residual.ensures
     ∙ round_none g.R.Bare.task g.R.Bare.lawful c.args.self.now.rows.now c.loop-row.row-index c.loop-row.round c.row-item.result
-    c.loop-row-test.true c.row-item.is c.loop-row.invariant.0 (c.in-err-round.ensures ∙ ap (λ n. round_told (lcm c.loop-row.round n)) (c.spacing.ensures ∙ ap (λ k. k.spacing) c.kept.ensures.0))
+    c.loop-row-test.true c.row-item.is c.loop-row.invariant.0 (c.in_err-round.ensures ∙ ap (λ n. round_told (lcm c.loop-row.round n)) (c.spacing.ensures ∙ ap (λ k. k.spacing) c.kept.ensures.0))
 
 pub loop-row-preserved : goal.loop-row-preserved
 loop-row-preserved g c =
-    round_next g.R.Bare.task g.R.Bare.lawful c.args.self.now.rows.now c.loop-row.row-index c.loop-row.round c.in-ok-round.round c.row-item.result
-    c.loop-row-test.true c.row-item.is c.loop-row.invariant.0 (c.in-ok-round.ensures ∙ ap (λ n. round_told (lcm c.loop-row.round n)) (c.spacing.ensures ∙ ap (λ k. k.spacing) c.kept.ensures.0))
+    round_next g.R.Bare.task g.R.Bare.lawful c.args.self.now.rows.now c.loop-row.row-index c.loop-row.round c.in_ok-round.round c.row-item.result
+    c.loop-row-test.true c.row-item.is c.loop-row.invariant.0 (c.in_ok-round.ensures ∙ ap (λ n. round_told (lcm c.loop-row.round n)) (c.spacing.ensures ∙ ap (λ k. k.spacing) c.kept.ensures.0))
 
 pub returns : goal.returns
 returns g c = round_all g.R.Bare.task g.R.Bare.lawful c.args.self.now.rows.now c.loop-row.row-index c.loop-row.round (search rules) c.loop-row.invariant.0 c.loop-row.invariant.2

@@ -10,17 +10,17 @@ use Rattle.machine.proofs.clock.Core.end.Goals as goal
 pub returns-then-task-self : goal.returns-then-task-self
 returns-then-task-self c =
     let s = c.args.self.now in
-    record { did = end_no_task s c.args.task (runs_is s.miss c.if-is-some.ensures) c.if-task-self.true; tasks = refl }
+    record { did = end_no_task s c.args.task (runs_is s.miss c.if-is_some.ensures) c.if-task-self.true; tasks = refl }
 
-pub returns-in-default : goal.returns-in-default
-returns-in-default c =
+pub returns-in_default : goal.returns-in_default
+returns-in_default c =
     let s = c.args.self.now in
-    record { did = end_no_front s c.args.task (runs_is s.miss c.if-is-some.ensures) c.if-task-self.false c.in-default.ensures.least; tasks = refl }
+    record { did = end_no_front s c.args.task (runs_is s.miss c.if-is_some.ensures) c.if-task-self.false c.in_default.ensures.least; tasks = refl }
 
 pub returns-then-front-task : goal.returns-then-front-task
 returns-then-front-task c =
     let s = c.args.self.now in
-    record { did = end_other_front s c.args.task (runs_is s.miss c.if-is-some.ensures) c.if-task-self.false (ready_pick c.in-Some.front) c.in-Some.ensures.least (λ e. omega arith); tasks = refl }
+    record { did = end_other_front s c.args.task (runs_is s.miss c.if-is_some.ensures) c.if-task-self.false (ready_pick c.in-Some.front) c.in-Some.ensures.least (λ e. omega arith); tasks = refl }
 
 pub returns : goal.returns
 returns c =
@@ -33,7 +33,7 @@ returns c =
     let g = ended s x f.least f.within t told.count told.entries in
     record {
       did = ap (λ g. stepped model.done (record { now = s.now; miss = (state_of s).miss; progress = g })) g
-          ∙ end_done s x.number (runs_is s.miss c.if-is-some.ensures) f.within x f.least refl
+          ∙ end_done s x.number (runs_is s.miss c.if-is_some.ensures) f.within x f.least refl
           ∙ ap (model.do_end (tasks_of s) (state_of s)) same;
       tasks = same_tasks s x f.least f.within t told.count (End s.now) told.entries;
     }

@@ -10,11 +10,11 @@ use Rattle.machine.proofs.Steps.{ticked, same_tasks}
 use Rattle.machine.proofs.Ticks.{tick_idle, tick_ran, tick_missed}
 use Rattle.machine.proofs.clock.Core.tick.Goals as goal
 
-pub returns-in-default : goal.returns-in-default
-returns-in-default c =
+pub returns-in_default : goal.returns-in_default
+returns-in_default c =
     let s = c.args.self.now in
     record {
-      did = ap (stepped model.idle) c.pass.ensures.state ∙ tick_idle s (runs_is s.miss c.if-is-some.ensures) (omega arith) c.in-default.ensures.least;
+      did = ap (stepped model.idle) c.pass.ensures.state ∙ tick_idle s (runs_is s.miss c.if-is_some.ensures) (omega arith) c.in_default.ensures.least;
       tasks = c.pass.ensures.tasks;
     }
 
@@ -23,9 +23,9 @@ returns-then-front-at c =
     let s = c.args.self.now in
     let x = ready_pick c.in-Some.front in
     let f = c.in-Some.ensures in
-    let p = told_at (λ (e : Entry). piece_told e.phase) c.at-work-piece.result s.table.entries x.number _ (omega arith) c.at-work-piece.ensures in
+    let p = told_at (λ (e : Entry). piece_told e.phase) c.at_work-piece.result s.table.entries x.number _ (omega arith) c.at_work-piece.ensures in
     record {
-      did = tick_missed s (runs_is s.miss c.if-is-some.ensures) (omega arith) x f.least f.within c.at-work-piece.result p (omega arith);
+      did = tick_missed s (runs_is s.miss c.if-is_some.ensures) (omega arith) x f.least f.within c.at_work-piece.result p (omega arith);
       tasks = refl;
     }
 
@@ -36,11 +36,11 @@ returns c =
     let f = c.in-Some.ensures in
     let t = c.advance.new.self in
     let told = c.advance.ensures in
-    let p = told_at (λ (e : Entry). piece_told e.phase) c.at-work-piece.result s.table.entries x.number _ (omega arith) c.at-work-piece.ensures in
+    let p = told_at (λ (e : Entry). piece_told e.phase) c.at_work-piece.result s.table.entries x.number _ (omega arith) c.at_work-piece.ensures in
     let g = ticked s x f.least f.within t told.count told.entries in
     record {
-      did = ap (stepped (model.ran x.number c.at-work-piece.result)) c.pass-2.ensures.state
-          ∙ ap (λ g. stepped (model.ran x.number c.at-work-piece.result) (model.later (record { now = s.now; miss = (state_of s).miss; progress = g }))) g
-          ∙ tick_ran s (runs_is s.miss c.if-is-some.ensures) (omega arith) x f.least f.within c.at-work-piece.result p (omega arith);
+      did = ap (stepped (model.ran x.number c.at_work-piece.result)) c.pass-2.ensures.state
+          ∙ ap (λ g. stepped (model.ran x.number c.at_work-piece.result) (model.later (record { now = s.now; miss = (state_of s).miss; progress = g }))) g
+          ∙ tick_ran s (runs_is s.miss c.if-is_some.ensures) (omega arith) x f.least f.within c.at_work-piece.result p (omega arith);
       tasks = c.pass-2.ensures.tasks ∙ same_tasks s x f.least f.within t told.count (Tick s.now) told.entries;
     }

@@ -6,4 +6,4 @@ use Rattle.machine.proofs.ready_line.ReadyLine.front.Goals as goal
 pub returns : goal.returns
 returns c =
     let q = c.args.self.now in
-    fronts ready_pick ready_before (λ x y. refl) (take q.len q.items) c.front-of.result c.front-of.ensures.held (c.front-of.ensures.first q.heap)
+    fronts ready_pick ready_before (λ x y. refl) (take q.len q.items) c.front_of.result c.front_of.ensures.held (c.front_of.ensures.first q.heap)

@@ -25,8 +25,8 @@ enqueue-requires c =
       held_room = held_room t i c.requires.within (front_not_held t (ready_pick c.args.front) c.requires.front c.requires.within);
     }
 
-pub invariant-of-self : goal.invariant-of-self
-invariant-of-self c =
+pub invariant_of-self : goal.invariant_of-self
+invariant_of-self c =
     let t = c.args.self.now in
     let i = c.args.front.task in
     let ev = c.args.event in

@@ -25,8 +25,8 @@ enqueue-requires c =
       ready_room = ready_room t i c.requires.within (first_not_ready t (held_pick c.args.first) c.requires.first c.requires.within);
     }
 
-pub invariant-of-self : goal.invariant-of-self
-invariant-of-self c =
+pub invariant_of-self : goal.invariant_of-self
+invariant_of-self c =
     let t = c.args.self.now in
     let i = c.args.first.task in
     let w = front_worth t held_key (helds t.held) (helds c.take.new.self) (option_map held_pick c.take.result) (held_pick c.args.first) t.parked c.take.ensures.held c.requires.first c.requires.within in

@@ -30,4 +30,4 @@ pub returns : goal.returns
 returns c =
     let t = c.loop-first.self in
     let s = c.args.self.now in
-    record { count = c.loop-first.invariant.0; entries = release_done c.args.at s.count s.entries t None c.loop-first.invariant.0 c.in-default.ensures.least tt c.loop-first.invariant.1 }
+    record { count = c.loop-first.invariant.0; entries = release_done c.args.at s.count s.entries t None c.loop-first.invariant.0 c.in_default.ensures.least tt c.loop-first.invariant.1 }

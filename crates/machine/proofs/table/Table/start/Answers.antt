@@ -17,8 +17,8 @@ enqueue-requires c =
       held_room = held_room t i c.requires.within (ap (held_in old.task old.last) c.requires.rests);
     }
 
-pub invariant-of-self : goal.invariant-of-self
-invariant-of-self c =
+pub invariant_of-self : goal.invariant_of-self
+invariant_of-self c =
     let t = c.args.self.now in
     let i = c.args.task in
     let old = get_or t.entries i blank in

@@ -8,14 +8,14 @@ returns-then-length-gt1000000 c = far_told _ c.args.length c.if-length-gt1000000
 pub returns-in-0 : goal.returns-in-0
 returns-in-0 c =
     let p = c.args.self.now in
-    clock_told p.clock p.stroke p.ok.0 c.args.task c.args.length _ c.if-length-gt1000000.false c.in-0.is c.clock-demand.ensures
+    clock_told p.clock p.stroke p.ok.0 c.args.task c.args.length _ c.if-length-gt1000000.false c.in-0.is c.clock_demand.ensures
 
 pub returns-in-1 : goal.returns-in-1
 returns-in-1 c =
     let p = c.args.self.now in
-    stroke_told p.clock p.stroke p.ok.0 c.args.task c.args.length _ c.if-length-gt1000000.false c.in-1.is c.stroke-demand.ensures.value c.stroke-demand.ensures.top
+    stroke_told p.clock p.stroke p.ok.0 c.args.task c.args.length _ c.if-length-gt1000000.false c.in-1.is c.stroke_demand.ensures.value c.stroke_demand.ensures.top
 
-pub returns-in-default : goal.returns-in-default
-returns-in-default c =
+pub returns-in_default : goal.returns-in_default
+returns-in_default c =
     let p = c.args.self.now in
     nothing_told p.clock p.stroke p.ok.0 c.args.task c.args.length 0 c.if-length-gt1000000.false (search rules)

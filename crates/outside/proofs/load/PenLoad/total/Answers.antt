@@ -8,5 +8,5 @@ returns-in-0 c = search (rules, found_clock)
 pub returns-in-1 : goal.returns-in-1
 returns-in-1 c = search (rules, found_stroke)
 
-pub returns-in-default : goal.returns-in-default
-returns-in-default c = search (rules, found_nothing)
+pub returns-in_default : goal.returns-in_default
+returns-in_default c = search (rules, found_nothing)

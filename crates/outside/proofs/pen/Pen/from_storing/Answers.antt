@@ -9,7 +9,7 @@ unfolding from_piece
 returns-then-end-lt60 c =
     let s = c.args.self.now.stroke in
     let total : 3 * s ≡ s + (s + s) = omega arith in
-    let part = c.min.ensures ∙ ap (λ n. min n c.stored-by.result) total ∙ ap (min (s + (s + s))) c.stored-by.ensures.value in
+    let part = c.min.ensures ∙ ap (λ n. min n c.stored_by.result) total ∙ ap (min (s + (s + s))) c.stored_by.ensures.value in
     record {
       value = part ∙ sym (cond-true _ _ _ (lt-ltb (40 + c.args.length) 60 c.if-end-lt60.true));
       top = omega (arith, c.min.ensures);
@@ -20,8 +20,8 @@ unfolding from_piece
 returns-else-end-lt60 c =
     let s = c.args.self.now.stroke in
     let total : 3 * s ≡ s + (s + s) = omega arith in
-    let part = c.min-else-end-lt60.ensures ∙ ap (λ n. min n c.stored-by-else-end-lt60.result) total ∙ ap (min (s + (s + s))) c.stored-by-else-end-lt60.ensures.value in
+    let part = c.min-else-end-lt60.ensures ∙ ap (λ n. min n c.stored_by-else-end-lt60.result) total ∙ ap (min (s + (s + s))) c.stored_by-else-end-lt60.ensures.value in
     record {
-      value = ap (λ n. c.min-else-end-lt60.result + n) c.from-wake.ensures.value ∙ ap (λ n. n + from_wake (stroke_task s) ((40 + c.args.length) - 60)) part ∙ sym (cond-false _ _ _ (le-ltb (40 + c.args.length) 60 c.if-end-lt60.false));
-      top = omega (arith, c.min-else-end-lt60.ensures, c.from-wake.ensures.top);
+      value = ap (λ n. c.min-else-end-lt60.result + n) c.from_wake.ensures.value ∙ ap (λ n. n + from_wake (stroke_task s) ((40 + c.args.length) - 60)) part ∙ sym (cond-false _ _ _ (le-ltb (40 + c.args.length) 60 c.if-end-lt60.false));
+      top = omega (arith, c.min-else-end-lt60.ensures, c.from_wake.ensures.top);
     }

@@ -9,7 +9,7 @@ returns c =
     let s = c.args.self.now.stroke in
     let t = c.args.length in
     let total : 3 * s ≡ s + (s + s) = omega arith in
-    let part = c.min.ensures ∙ ap (λ n. min n c.sampled-by.result) total ∙ ap (min (s + (s + s))) c.sampled-by.ensures.value in
+    let part = c.min.ensures ∙ ap (λ n. min n c.sampled_by.result) total ∙ ap (min (s + (s + s))) c.sampled_by.ensures.value in
     let few : t / 60 ≤ 16667 = omega (arith, div_below t 60 16668 (omega arith) (omega arith)) in
     record {
       value = ap (λ n. t / 60 * n + c.min.result) total ∙ ap (λ n. t / 60 * (s + (s + s)) + n) part;

@@ -11,6 +11,6 @@ returns c =
     let s = c.args.self.now.stroke in
     let first = piece_first (stroke_task s) (stroke_lawful s c.args.self.now.ok.1) (piece 0 10 s) (drawn s) c.args.length refl (omega arith) in
     record {
-      value = omega (arith, first, c.from-wake.ensures.value, c.from-drawing.ensures.value, c.from-storing.ensures.value, c.max.ensures, c.max-later.ensures);
+      value = omega (arith, first, c.from_wake.ensures.value, c.from_drawing.ensures.value, c.from_storing.ensures.value, c.max.ensures, c.max-later.ensures);
       top = omega (arith, c.max.ensures, c.max-later.ensures);
     }

@@ -16,11 +16,11 @@ returns g c =
     let xs = q.items.now in
     let n = c.len-n.result in
     let all = all_held xs q.len n c.len-n.ensures in
-    let done = c.take-from-first.ensures in
+    let done = c.take_from-first.ensures in
     let heaped = all_heaped xs q.len n c.len-n.ensures b in
     record {
       held = all_shuffled xs q.len n c.len-n.ensures _ done.held;
-      first = λ h. subst (First b c.take-from-first.result) all (done.first (heaped h));
+      first = λ h. subst (First b c.take_from-first.result) all (done.first (heaped h));
       sound = λ h. done.sound (heaped h);
       lender = search rules;
       places = search rules;
