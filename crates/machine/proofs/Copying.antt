@@ -92,10 +92,10 @@ copied_at t n ps h k l =
 
 abbrev pub Owed : ℕ → ℕ → List Piece → Type 0
 Owed spacing count ps =
-    (length ps ≡ 4) × ((spacing ≤ 10000) × ((1 ≤ count) × ((count ≤ 4) × (((get_or ps 0 no_piece).ready ≡ 0) × (
-    ((k : ℕ) → k < count → (get_or ps k no_piece).ready < (get_or ps k no_piece).due) × (
-    ((k : ℕ) → k < count → (get_or ps k no_piece).due ≤ 10000) × (
-    ((k : ℕ) → k < count → (get_or ps k no_piece).cap ≤ 1000000000000000) × Unit {0})))))))
+    (length ps ≡ 4) × (spacing ≤ 10000) × (1 ≤ count) × (count ≤ 4) × ((get_or ps 0 no_piece).ready ≡ 0) ×
+    ((k : ℕ) → k < count → (get_or ps k no_piece).ready < (get_or ps k no_piece).due) ×
+    ((k : ℕ) → k < count → (get_or ps k no_piece).due ≤ 10000) ×
+    ((k : ℕ) → k < count → (get_or ps k no_piece).cap ≤ 1000000000000000)
 
 pub owed : (o : Option task.Task) (s n : ℕ) (ps : List Piece) → Rightful o → Some s ≡ spacing_told o → Copied o n ps → Owed s n ps
 owed None s n ps r e h = let z : ◌≡◌ {A = ℕ} 0 1 = cc in absurd (omega arith)
@@ -105,28 +105,13 @@ owed (Some t) s n ps r e h =
     let one : 0 < n = omega (arith, h.1, some.0) in
     let first = copied_at t n ps h 0 one in (
       h.0,
-      (
-        omega (arith, r.spacing_high),
-        (
-          omega arith,
-          (
-            omega (arith, h.1, r.few),
-            (
-              ap (λ (p : Piece). p.ready) first ∙ some.1,
-              (
-                λ k l. let e = copied_at t n ps h k l in omega (arith, ap (λ (p : Piece). p.ready) e, ap (λ (p : Piece). p.due) e, (ordered_at 0 t.spacing t.pieces r.ordered k (omega (arith, h.1))).0),
-                (
-                  λ k l. let e = copied_at t n ps h k l in omega (arith, ap (λ (p : Piece). p.due) e, (ordered_at 0 t.spacing t.pieces r.ordered k (omega (arith, h.1))).1, r.spacing_high),
-                  (
-                    λ k l. let e = copied_at t n ps h k l in omega (arith, ap (λ (p : Piece). p.cap) e),
-                    tt,
-                  ),
-                ),
-              ),
-            ),
-          ),
-        ),
-      ),
+      omega (arith, r.spacing_high),
+      omega arith,
+      omega (arith, h.1, r.few),
+      ap (λ (p : Piece). p.ready) first ∙ some.1,
+      λ k l. let e = copied_at t n ps h k l in omega (arith, ap (λ (p : Piece). p.ready) e, ap (λ (p : Piece). p.due) e, (ordered_at 0 t.spacing t.pieces r.ordered k (omega (arith, h.1))).0),
+      λ k l. let e = copied_at t n ps h k l in omega (arith, ap (λ (p : Piece). p.due) e, (ordered_at 0 t.spacing t.pieces r.ordered k (omega (arith, h.1))).1, r.spacing_high),
+      λ k l. let e = copied_at t n ps h k l in omega (arith, ap (λ (p : Piece). p.cap) e),
     )
 
 pub copied_task : (o : Option task.Task) (s m n : ℕ) (ps : List Piece) → Some s ≡ spacing_told o → Some m ≡ total_told o → Copied o n ps → Some (record { spacing = s; total = m; pieces = map piece_of (take n ps) }) ≡ option_map told_task o

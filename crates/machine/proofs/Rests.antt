@@ -34,19 +34,10 @@ holds_none pick len items key count es fits e h f =
 pub rest_kept : (count : ℕ) (es : List Entry) (ready : ReadyLine) (held : HeldLine) → length es ≡ 32 → count ≤ 32 → ready.len ≡ 0 → held.len ≡ 0 → ((i : ℕ) → i < count → Resting (get_or es i blank)) → Kept count es ready held
 rest_kept count es ready held long few r h rest = (
   long,
-  (
-    few,
-    (
-      λ i l. rest_good (get_or es i blank) (rest i l),
-      (
-        holds_none ready_pick ready.len ready.items ready_key count es (omega arith) r (λ i l. let e = get_or es i blank in ap (ready_in e.task e.last) (rest i l).0),
-        (
-          holds_none held_pick held.len held.items held_key count es (omega arith) h (λ i l. let e = get_or es i blank in ap (held_in e.task e.last) (rest i l).0),
-          tt,
-        ),
-      ),
-    ),
-  ),
+  few,
+  λ i l. rest_good (get_or es i blank) (rest i l),
+  holds_none ready_pick ready.len ready.items ready_key count es (omega arith) r (λ i l. let e = get_or es i blank in ap (ready_in e.task e.last) (rest i l).0),
+  holds_none held_pick held.len held.items held_key count es (omega arith) h (λ i l. let e = get_or es i blank in ap (held_in e.task e.last) (rest i l).0),
 )
 
 asleep_is : (xs : List Entry) → ((i : ℕ) → i < length xs → progress_of (get_or xs i blank) ≡ model.at_rest) → map progress_of xs ≡ model.asleep (map task_of xs)

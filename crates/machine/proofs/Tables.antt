@@ -42,7 +42,7 @@ some_of x y e = cc
 
 -- what a table owes
 abbrev pub Kept : ℕ → List Entry → ReadyLine → HeldLine → Type 0
-Kept count es ready held = (length es ≡ 32) × ((count ≤ 32) × (((j : ℕ) → j < count → GoodEntry (get_or es j blank)) × (Holds (readies ready) (keys ready_key count es) × (Holds (helds held) (keys held_key count es) × Unit {0}))))
+Kept count es ready held = (length es ≡ 32) × (count ≤ 32) × ((j : ℕ) → j < count → GoodEntry (get_or es j blank)) × Holds (readies ready) (keys ready_key count es) × Holds (helds held) (keys held_key count es)
 
 module _ (t : Table) (i : ℕ) (within : i < t.count) where
   fits : t.count ≤ length t.entries
@@ -67,19 +67,10 @@ module _ (t : Table) (i : ℕ) (within : i < t.count) where
         → Kept t.count (set t.entries i e) ready held
     kept ready held r h = (
       length-set t.entries i e ∙ t.long,
-      (
-        t.few,
-        (
-          each_set GoodEntry t.count t.entries i e (omega (arith, t.few, t.long)) t.good new_good,
-          (
-            holds_set ready_key t.count t.entries fits i e within (readies t.ready) (readies ready) t.lined r,
-            (
-              holds_set held_key t.count t.entries fits i e within (helds t.held) (helds held) t.parked h,
-              tt,
-            ),
-          ),
-        ),
-      ),
+      t.few,
+      each_set GoodEntry t.count t.entries i e (omega (arith, t.few, t.long)) t.good new_good,
+      holds_set ready_key t.count t.entries fits i e within (readies t.ready) (readies ready) t.lined r,
+      holds_set held_key t.count t.entries fits i e within (helds t.held) (helds held) t.parked h,
     )
 
 pub moved_is : (es : List Entry) (i : ℕ) (d e : Entry) (ev : Event) → i < length es → e ≡ moved (get_or es i d) ev → e ≡ moved (get_or es i blank) ev

@@ -12,6 +12,6 @@ pub struct Core {
     pub(crate) now: u64,
     pub(crate) miss: Option<Miss>,
     pub(crate) table: Table,
-    ghost early: { (λ x. x.now) ≤ 1000000000000000 },
-    ghost timed: { (i : ℕ) → i < table.count → timely (λ x. x.now) (slice_index_or table.entries i blank) ≡ true },
+    ghost early: { now ≤ 1000000000000000 },
+    ghost timed: { (i : ℕ) → i < table.count → timely now (slice_index_or table.entries i blank) ≡ true },
 }

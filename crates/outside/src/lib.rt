@@ -8,7 +8,7 @@ pub mod pen;
 #[cfg(test)]
 mod tests {
     use crate::pen::Pen;
-    use check::check as judge;
+    use checking::check as judge;
     use loads::load::Load;
     use model::refusal::Refusal;
     use std::test::Fail;

@@ -5,7 +5,7 @@ ghost use Rattle.model.specs.Rules.{first_fault};
 ghost use Rattle.rows.specs.Bare.{open_breaks};
 ghost use Rattle.seeker.specs.Refused.{by_refusal, refused, round_of_all};
 
-use check::check;
+use checking::check;
 use loads::load::Load;
 use loads::multiple::common_multiple;
 use model::refusal::Refusal;

@@ -3,7 +3,7 @@ ghost use Rattle.std.specs.Prelude.{◌≡◌, Bool, List};
 ghost use Rattle.rows.specs.declared.bare.SettledRow.{SettledRow};
 ghost use Rattle.seeker.specs.Judged.{judged};
 
-use check::check;
+use checking::check;
 use loads::load::Load;
 use loads::pair::Pair;
 use loads::table::Table;

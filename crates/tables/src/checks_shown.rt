@@ -1,5 +1,5 @@
 //! Loads: the verdicts on tables, pairs and slowed loads, and the splits of open rows.
-use check::check;
+use checking::check;
 use loads::factor::Factor;
 use loads::load::Load;
 use loads::pair::Pair;

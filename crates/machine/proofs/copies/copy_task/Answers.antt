@@ -6,7 +6,8 @@ pub invariant_of-result : goal.invariant_of-result
 invariant_of-result g c =
     let ts = g.L.Load.tasks c.args.load.now in
     let i = c.args.task in
-    owed (found ts i) c.in-Some.spacing c.copy_pieces-few.result.count c.copy_pieces-few.result.pieces (rightful_at ts (g.L.Load.lawful c.args.load.now) i) c.in-Some.ensures c.copy_pieces-few.ensures
+    let whole = owed (found ts i) c.in-Some.spacing c.copy_pieces-few.result.count c.copy_pieces-few.result.pieces (rightful_at ts (g.L.Load.lawful c.args.load.now) i) c.in-Some.ensures c.copy_pieces-few.ensures in
+    record { long = whole.0; slow = whole.1; some = whole.2; few = whole.3; starts = whole.4; rises = whole.5; near = whole.6; caps = whole.7 }
 
 pub returns : goal.returns
 returns g c =

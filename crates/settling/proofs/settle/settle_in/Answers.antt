@@ -37,5 +37,5 @@ pub returns-in-Err : goal.returns-in-Err
 returns-in-Err c =
     let e = c.in-Err.ensures in
     IfOk-weaker c.from_slice.result _ _
-    (λ v is. is.0 ∙ c.as_slice.ensures ∙ c.fault_line.ensures ∙ refused_text c.args.text.now _ _ _ _ _ _ c.requires.plains c.requires.opens c.requires.boundeds _ e.read)
-    c.from_slice.ensures.made
+    (λ v is. is ∙ c.as_slice.ensures ∙ c.fault_line.ensures ∙ refused_text c.args.text.now _ _ _ _ _ _ c.requires.plains c.requires.opens c.requires.boundeds _ e.read)
+    c.from_slice.ensures.items

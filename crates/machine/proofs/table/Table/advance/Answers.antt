@@ -32,10 +32,11 @@ invariant_of-self c =
     let ev = c.args.event in
     let w = front_worth t ready_key (readies t.ready) (readies c.take.new.self) (option_map ready_pick c.take.result) (ready_pick c.args.front) t.lined c.take.ensures.held c.requires.front c.requires.within in
     let none : held_key (get_or t.entries i blank) ≡ None = front_not_held t (ready_pick c.args.front) c.requires.front c.requires.within in
-    kept t i c.requires.within ev _ (moved_is t.entries i _ _ ev (omega arith) c.next-entry.ensures) c.requires.early
+    let whole = kept t i c.requires.within ev _ (moved_is t.entries i _ _ ev (omega arith) c.next-entry.ensures) c.requires.early
     c.enqueue.new.ready c.enqueue.new.held
     (λ f. omega (arith, c.enqueue.ensures.readied f, w f))
-    (λ f. omega (arith, c.enqueue.ensures.holds f, ap (worth f i) none))
+    (λ f. omega (arith, c.enqueue.ensures.holds f, ap (worth f i) none)) in
+    record { long = whole.0; few = whole.1; good = whole.2; lined = whole.3; parked = whole.4 }
 
 pub returns : goal.returns
 returns c =

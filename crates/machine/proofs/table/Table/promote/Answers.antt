@@ -31,10 +31,11 @@ invariant_of-self c =
     let i = c.args.first.task in
     let w = front_worth t held_key (helds t.held) (helds c.take.new.self) (option_map held_pick c.take.result) (held_pick c.args.first) t.parked c.take.ensures.held c.requires.first c.requires.within in
     let none : ready_key (get_or t.entries i blank) ≡ None = first_not_ready t (held_pick c.args.first) c.requires.first c.requires.within in
-    kept t i c.requires.within Release _ (moved_is t.entries i _ _ Release (omega arith) c.next-entry.ensures) (omega arith)
+    let whole = kept t i c.requires.within Release _ (moved_is t.entries i _ _ Release (omega arith) c.next-entry.ensures) (omega arith)
     c.enqueue.new.ready c.enqueue.new.held
     (λ f. omega (arith, c.enqueue.ensures.readied f, ap (worth f i) none))
-    (λ f. omega (arith, c.enqueue.ensures.holds f, w f))
+    (λ f. omega (arith, c.enqueue.ensures.holds f, w f)) in
+    record { long = whole.0; few = whole.1; good = whole.2; lined = whole.3; parked = whole.4 }
 
 pub returns : goal.returns
 returns c =

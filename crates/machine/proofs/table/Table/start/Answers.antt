@@ -22,7 +22,8 @@ invariant_of-self c =
     let t = c.args.self.now in
     let i = c.args.task in
     let old = get_or t.entries i blank in
-    kept t i c.requires.within (Wake c.args.at) _ (moved_is t.entries i _ _ (Wake c.args.at) (omega arith) c.next-entry.ensures) c.requires.early
+    let whole = kept t i c.requires.within (Wake c.args.at) _ (moved_is t.entries i _ _ (Wake c.args.at) (omega arith) c.next-entry.ensures) c.requires.early
     c.enqueue.new.ready c.enqueue.new.held
     (λ f. omega (arith, c.enqueue.ensures.readied f, ap (λ p. worth f i (ready_in old.task old.last p)) c.requires.rests))
-    (λ f. omega (arith, c.enqueue.ensures.holds f, ap (λ p. worth f i (held_in old.task old.last p)) c.requires.rests))
+    (λ f. omega (arith, c.enqueue.ensures.holds f, ap (λ p. worth f i (held_in old.task old.last p)) c.requires.rests)) in
+    record { long = whole.0; few = whole.1; good = whole.2; lined = whole.3; parked = whole.4 }

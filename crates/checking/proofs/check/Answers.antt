@@ -7,8 +7,8 @@ use Rattle.model.proofs.Promise.{agreed}
 use Rattle.model.proofs.Round.Told.{told_range}
 use Rattle.model.proofs.Verdict.Means.{verdict_many, verdict_told}
 use Rattle.model.proofs.Verdict.Walk.{over_here, over_next, over_none}
-use Rattle.check.proofs.check.Goals as goal
-use Rattle.check.proofs.check.Goals.{then-length-round, else-length-round+else-loop-task-test+then-demand-length}
+use Rattle.checking.proofs.check.Goals as goal
+use Rattle.checking.proofs.check.Goals.{then-length-round, else-length-round+else-loop-task-test+then-demand-length}
 
 pub returns-then-count-gt32 : goal.returns-then-count-gt32
 returns-then-count-gt32 g c =

@@ -1,7 +1,7 @@
 use Rattle.std.proofs.Common.{◌≡◌, ◌-◌, ◌*◌, ◌≤◌, take}
 use Rattle.model.specs.Told.{told_demand_of_all}
 use Rattle.model.specs.Verdict.{first_over}
-use Rattle.check.proofs.check.Given as goal
+use Rattle.checking.proofs.check.Given as goal
 
 abbrev pub invariant-loop-task : goal.invariant-loop-task
 invariant-loop-task g l = (l.demand ≡ told_demand_of_all (take l.task (g.L.Load.tasks l.load)) l.length) × (l.demand ≤ l.task * 1000000000000000)
