@@ -263,12 +263,24 @@ fn refused(
     line: u16,
     layer: Layer,
 ) -> Result<(), Fail> {
+    refused_with(rt, answer, number, line, layer, "the whole text")
+}
+
+/// The same, with what is shown where it fails.
+fn refused_with(
+    rt: &impl Abort,
+    answer: Result<Counts, Fault>,
+    number: u8,
+    line: u16,
+    layer: Layer,
+    note: &str,
+) -> Result<(), Fail> {
     match answer {
         Ok(_) => Err(Fail::new("accepted")),
         Err(fault) => {
-            assert_eq!(rt; fault.number(), number);
-            assert_eq!(rt; fault.line, line);
-            assert_eq!(rt; depth(fault.layer), depth(layer));
+            assert_eq!(rt; fault.number(), number, "{note}");
+            assert_eq!(rt; fault.line, line, "{note}");
+            assert_eq!(rt; depth(fault.layer), depth(layer), "{note}");
             Ok(())
         }
     }
@@ -288,10 +300,10 @@ fn repeated(heap: Global, line: &str, times: usize, rest: &str) -> Result<Vec<u8
 fn lines_are_refused(rt: HostRuntime) -> Result<(), Fail> {
     for case in &CASES {
         let first = repeated(rt.alloc(), case.line, 1, "\n")?;
-        refused(&rt, read(&first), case.number, 1, case.layer).note(case.line)?;
+        refused_with(&rt, read(&first), case.number, 1, case.layer, case.line)?;
         let mut last = repeated(rt.alloc(), OPEN_LINE, 32, PLAIN_LINE)?;
         last.extend_from_slice(first.as_slice())?;
-        refused(&rt, read(&last), case.number, 34, case.layer).note(case.line)?;
+        refused_with(&rt, read(&last), case.number, 34, case.layer, case.line)?;
     }
     Ok(())
 }
@@ -302,7 +314,7 @@ fn tables_are_full_at_32(rt: HostRuntime) -> Result<(), Fail> {
         let full = repeated(rt.alloc(), line, 32, "")?;
         assert!(rt; read(&full).is_ok(), "{}", line);
         let over = repeated(rt.alloc(), line, 33, "")?;
-        refused(&rt, read(&over), 9, 33, Layer::Table).note(line)?;
+        refused_with(&rt, read(&over), 9, 33, Layer::Table, line)?;
     }
     let two = repeated(rt.alloc(), PLAIN_LINE, 2, OPEN_LINE)?;
     refused(

@@ -1,5 +1,5 @@
 -- What the table's entries mean: tasks and their progress.
-use Rattle.std.specs.Prelude.{◌≡◌, ℕ, zero, suc, ◌+◌, ◌<◌, ◌≤◌, Bool, true, false, List, [], ◌∷◌, map, get_or, take, drop, None, slice_index_or, refl}
+use Rattle.std.specs.Prelude.{◌≡◌, ℕ, zero, suc, ◌+◌, ◌<◌, ◌≤◌, Bool, true, false, List, [], ◌∷◌, map, slice_index_or, take, drop, None, refl}
 use Rattle.std.proofs.Common.{arith, lit≤}
 use Rattle.model.specs.Task as task
 use Rattle.model.specs.Machine as model
@@ -31,9 +31,9 @@ blank_task = record {
   some = lit≤ tt;
   few = lit≤ tt;
   starts = refl;
-  rises = λ k h. elim k as (λ k. k < 1 → (get_or blank_pieces k no_piece).ready < (get_or blank_pieces k no_piece).due) [ zero ↦ λ _. lit≤ tt | suc k ↦ λ l. absurd (omega arith) ] h;
-  near = λ k h. elim k as (λ k. k < 1 → (get_or blank_pieces k no_piece).due ≤ 10000) [ zero ↦ λ _. lit≤ tt | suc k ↦ λ l. absurd (omega arith) ] h;
-  caps = λ k h. elim k as (λ k. k < 1 → (get_or blank_pieces k no_piece).cap ≤ 1000000000000000) [ zero ↦ λ _. lit≤ tt | suc k ↦ λ l. absurd (omega arith) ] h;
+  rises = λ k h. elim k as (λ k. k < 1 → (slice_index_or blank_pieces k no_piece).ready < (slice_index_or blank_pieces k no_piece).due) [ zero ↦ λ _. lit≤ tt | suc k ↦ λ l. absurd (omega arith) ] h;
+  near = λ k h. elim k as (λ k. k < 1 → (slice_index_or blank_pieces k no_piece).due ≤ 10000) [ zero ↦ λ _. lit≤ tt | suc k ↦ λ l. absurd (omega arith) ] h;
+  caps = λ k h. elim k as (λ k. k < 1 → (slice_index_or blank_pieces k no_piece).cap ≤ 1000000000000000) [ zero ↦ λ _. lit≤ tt | suc k ↦ λ l. absurd (omega arith) ] h;
 }
 
 abbrev pub blank : Entry

@@ -1,5 +1,5 @@
 //! What is done with the table: one entry moves, and its piece with it.
-ghost use Rattle.std.specs.Prelude.{◌≡◌, ℕ, ◌+◌, ◌<◌, ◌≤◌, map, get_or, take, IfSome, Some, None, sum_by, slice_index_or, slice_set};
+ghost use Rattle.std.specs.Prelude.{◌≡◌, ℕ, ◌+◌, ◌<◌, ◌≤◌, map, slice_index_or, take, IfSome, Some, None, sum_by, slice_set};
 ghost use Rattle.machine.specs.Lines.{held_pick, held_picks, ready_pick, ready_picks, worth};
 ghost use Rattle.machine.specs.Events.{GoodEntry, event_at, moved, released};
 ghost use Rattle.machine.specs.Keys.{held_key, ready_key};
@@ -72,7 +72,7 @@ impl Table {
     /// A task at rest wakes.
     pub(crate) fn start(&mut self, task: usize, at: u64)
         requires within { task < self.old.count }
-        requires rests { (get_or self.old.entries task blank).phase ≡ Phase.Rest }
+        requires rests { (slice_index_or self.old.entries task blank).phase ≡ Phase.Rest }
         requires early { at ≤ 1000000000000000 }
         ensures count { self.new.count ≡ self.old.count }
         ensures entries { self.new.entries ≡ slice_set self.old.entries task (moved (slice_index_or self.old.entries task blank) (Event.Wake at)) }

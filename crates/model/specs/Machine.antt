@@ -1,5 +1,5 @@
 -- The machine by what its calls do: the instant, the miss, and of each task its last wake and what is unfinished of its job.
-use Rattle.std.specs.Prelude.{◌≡◌, ℕ, suc, ◌+◌, ◌-◌, ◌^◌, ◌<◌, ◌≤◌, min, Bool, true, false, cond, not, leb, List, [], ◌∷◌, map, length, get_or, Some, None, Option, ◌==◌, nat_le, nat_lt, slice_index_or, slice_set}
+use Rattle.std.specs.Prelude.{◌≡◌, ℕ, suc, ◌+◌, ◌-◌, ◌^◌, ◌<◌, ◌≤◌, min, Bool, true, false, cond, not, nat_le, List, [], ◌∷◌, map, length, slice_index_or, Some, None, Option, ◌==◌, nat_lt, slice_set}
 use Rattle.model.specs.declared.refusal.Refusal.{Refusal}
 use Rattle.model.specs.declared.refusal.Refusal.TheVariants.{Stopped, NoTask, TooSoon, JobOpen, LastInstant, NotFront}
 use Rattle.model.specs.Refusals.{number}
@@ -64,10 +64,10 @@ due_if counts last [] = None
 due_if counts last (p ∷ ps) = cond (counts (since last p.ready) (since last p.due)) (Some (since last p.due)) None
 
 abbrev pub ready_due : ℕ → Progress → Option ℕ
-ready_due now g = due_if (λ r d. leb r now) g.last g.left
+ready_due now g = due_if (λ r d. nat_le r now) g.last g.left
 
 abbrev pub late_due : ℕ → Progress → Option ℕ
-late_due now g = due_if (λ r d. leb d now) g.last g.left
+late_due now g = due_if (λ r d. nat_le d now) g.last g.left
 
 -- of the tasks that have a key the one with the least, the lowest number on a tie
 pub record Pick : Type 0 where
@@ -90,7 +90,7 @@ least (Some d ∷ ds) = better d (next (least ds))
 -- c is the least of the keys ds, and the first of those
 pub record Picked (ds : List (Option ℕ)) (c : Pick) : Type 0 where
   pub within : c.number < length ds
-  pub here : get_or ds c.number None ≡ Some c.key
+  pub here : slice_index_or ds c.number None ≡ Some c.key
   pub lowest : (j v : ℕ) → slice_index_or ds j None ≡ Some v → c.key ≤ v
   pub first : (j v : ℕ) → slice_index_or ds j None ≡ Some v → j < c.number → c.key < v
 
