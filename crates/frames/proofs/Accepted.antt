@@ -1,6 +1,6 @@
 -- A text is accepted exactly where it is the lines of lawful rows that the tables can take.
 use Rattle.std.proofs.Common.{◌≡◌, ℕ, zero, suc, ◌+◌, ◌*◌, ◌/◌, ◌%◌, ◌<◌, ◌≤◌, min, Bool, true, false, cond, eqb, ltb, leb, ◌↔◌, List, [], ◌∷◌, ◌++◌, map, length, Some, None, Ok, Err, Option, Result, sym, refl, ap, ◌∙◌, subst, arith, ne_eqb, eqb-true}
-use Rattle.std.specs.List.{flat_map, AllByRecursion as All}
+use Rattle.std.specs.List.{flat_map, AllByRecursion}
 use Rattle.std.proofs.lemmas.List.{append-nil, append_assoc, length-append}
 use Rattle.std.proofs.lemmas.Bool.Decides.{nat_tests}
 use Rattle.frames.specs.declared.fault.Fault.{Fault}
@@ -52,7 +52,7 @@ together (b ∷ c ∷ text) e = go (eqb b 10) refl (together (c ∷ text) e)
 abbrev Inner : ℕ → Type 0
 Inner b = eqb b 10 ≡ false
 
-apart : (l rest : List ℕ) → All Inner l → lines (l ++ 10 ∷ rest) ≡ l ∷ lines rest
+apart : (l rest : List ℕ) → AllByRecursion Inner l → lines (l ++ 10 ∷ rest) ≡ l ∷ lines rest
 apart [] rest a = refl
 apart (b ∷ l) rest a =
     ap (λ (t : Bool). cond t ([] ∷ lines (l ++ 10 ∷ rest)) (longer b (lines (l ++ 10 ∷ rest)))) a.0
@@ -67,7 +67,7 @@ ends_well (b ∷ c ∷ l) rest e = ends_well (c ∷ l) rest e
 digit_inner : (v : ℕ) → Inner (digit v)
 digit_inner v = grind (arith, nat_tests)
 
-spelled_inner : (bs : List ℕ) → All Inner (spelled bs)
+spelled_inner : (bs : List ℕ) → AllByRecursion Inner (spelled bs)
 spelled_inner [] = tt
 spelled_inner (b ∷ bs) = (digit_inner (b / 16), (digit_inner (b % 16), spelled_inner bs))
 
@@ -126,7 +126,7 @@ module _ (places : Counts) where
   after_row done rest x = go_on done x (λ row. after_room done rest row (room_of done row))
 
   abbrev Given : List TextRow → List TextRow → List (List ℕ) → Type 0
-  Given done rows ls = (new : List TextRow) × (rows ≡ done ++ new) × (ls ≡ map text_of new) × All Lawful new × Fit places rows
+  Given done rows ls = (new : List TextRow) × (rows ≡ done ++ new) × (ls ≡ map text_of new) × AllByRecursion Lawful new × Fit places rows
 
   abbrev More : List TextRow → List TextRow → List (List ℕ) → Type 0
   More done rows ls = (row : TextRow) → reads places (done ++ row ∷ []) ls ≡ accepted rows → Fit places (done ++ row ∷ []) → Given (done ++ row ∷ []) rows ls
@@ -148,7 +148,7 @@ module _ (places : Counts) where
       go (Err d) p e more = never done rows d e
       go (Ok row) p e more = go_room row (room_of done row) p refl e more
 
-  write_lines : (new done : List TextRow) → All Lawful new → Fit places (done ++ new) → reads places done (map text_of new) ≡ accepted (done ++ new)
+  write_lines : (new done : List TextRow) → AllByRecursion Lawful new → Fit places (done ++ new) → reads places done (map text_of new) ≡ accepted (done ++ new)
   write_lines [] done a f = ap accepted (sym (append-nil done))
   write_lines (row ∷ new) done a f =
       let h = fit_next done row new f in
@@ -158,21 +158,21 @@ module _ (places : Counts) where
       ∙ write_lines new (done ++ row ∷ []) a.1 (subst (λ (rs : List TextRow). Fit places rs) (sym s) f)
       ∙ ap accepted s
 
-pub accepted_texts : (places : Counts) (rows : List TextRow) (text : List ℕ) → (text_read places text ≡ accepted rows) ↔ ((text ≡ written rows) × All Lawful rows × Fit places rows × (length text ≤ 16384))
+pub accepted_texts : (places : Counts) (rows : List TextRow) (text : List ℕ) → (text_read places text ≡ accepted rows) ↔ ((text ≡ written rows) × AllByRecursion Lawful rows × Fit places rows × (length text ≤ 16384))
 accepted_texts places rows text = (there (text_test text) refl, back)
   where
-    there : (x : Result (Unit {0}) Fault) → text_test text ≡ x → go_on [] x (λ _. reads places [] (lines text)) ≡ accepted rows → (text ≡ written rows) × All Lawful rows × Fit places rows × (length text ≤ 16384)
+    there : (x : Result (Unit {0}) Fault) → text_test text ≡ x → go_on [] x (λ _. reads places [] (lines text)) ≡ accepted rows → (text ≡ written rows) × AllByRecursion Lawful rows × Fit places rows × (length text ≤ 16384)
     there (Err d) p e = never places [] rows d e
     there (Ok u) p e =
         let g = read_lines places (lines text) [] rows e (omega arith, omega arith, omega arith) in
         let same : rows ≡ g.0 = g.1 in (
           sym (together text (tested_ended text u p)) ∙ ap unlines g.2 ∙ unlines_written g.0 ∙ ap written (sym same),
-          subst (λ (rs : List TextRow). All Lawful rs) (sym same) g.3,
+          subst (λ (rs : List TextRow). AllByRecursion Lawful rs) (sym same) g.3,
           g.4,
           tested_short text u p,
         )
 
-    back : (text ≡ written rows) × All Lawful rows × Fit places rows × (length text ≤ 16384) → text_read places text ≡ accepted rows
+    back : (text ≡ written rows) × AllByRecursion Lawful rows × Fit places rows × (length text ≤ 16384) → text_read places text ≡ accepted rows
     back b =
         ap (λ (x : Result (Unit {0}) Fault). go_on [] x (λ _. reads places [] (lines text))) (sym (text_good text b.3 (ap ended b.0 ∙ ended_written rows)))
         ∙ ap (λ (ls : List (List ℕ)). reads places [] ls) (ap lines b.0 ∙ lines_written rows)

@@ -1,6 +1,6 @@
 -- A line reads as a row exactly where it is the line that the row is written as.
 use Rattle.std.proofs.Common.{◌≡◌, ℕ, zero, suc, ◌+◌, ◌*◌, ◌/◌, ◌%◌, ◌<◌, ◌≤◌, Bool, true, false, cond, ◌&&◌, eqb, ltb, leb, ◌↔◌, List, [], ◌∷◌, ◌++◌, length, get_or, take, drop, Some, None, Ok, Err, Option, Result, sym, refl, ap, ◌∙◌, subst, arith, eq-eqb, eqb-true}
-use Rattle.std.specs.List.{AllByRecursion as All}
+use Rattle.std.specs.List.{AllByRecursion}
 use Rattle.std.proofs.lemmas.List.{get_or-drop}
 use Rattle.std.proofs.ByRecursion.{All-get_or}
 use Rattle.std.proofs.lemmas.Bool.Decides.{nat_tests}
@@ -47,7 +47,7 @@ spelled_bytes (h ∷ l ∷ text) a e =
     let r = spelled_bytes text z (omega arith) in
     λ i. (ap digit p ∙ digit_worth h x) i ∷ (ap digit q ∙ digit_worth l y) i ∷ r i
 
-pub bytes_small : (text : List ℕ) → all_digits text ≡ true → All Byte (bytes text)
+pub bytes_small : (text : List ℕ) → all_digits text ≡ true → AllByRecursion Byte (bytes text)
 bytes_small [] a = tt
 bytes_small (h ∷ []) a = tt
 bytes_small (h ∷ l ∷ text) a =
@@ -55,7 +55,7 @@ bytes_small (h ∷ l ∷ text) a =
     let y : worth l < 16 = grind (arith, nat_tests) in
     (omega arith, bytes_small text (grind (arith, nat_tests)))
 
-pub bytes_spelled : (bs : List ℕ) → All Byte bs → bytes (spelled bs) ≡ bs
+pub bytes_spelled : (bs : List ℕ) → AllByRecursion Byte bs → bytes (spelled bs) ≡ bs
 bytes_spelled [] a = refl
 bytes_spelled (b ∷ bs) a =
     let p = worth_digit (b / 16) (omega arith) in
@@ -63,7 +63,7 @@ bytes_spelled (b ∷ bs) a =
     let e : 16 * worth (digit (b / 16)) + worth (digit (b % 16)) ≡ b = omega arith in
     λ i. e i ∷ bytes_spelled bs a.1 i
 
-digits_spelled : (bs : List ℕ) → All Byte bs → all_digits (spelled bs) ≡ true
+digits_spelled : (bs : List ℕ) → AllByRecursion Byte bs → all_digits (spelled bs) ≡ true
 digits_spelled [] a = refl
 digits_spelled (b ∷ bs) a =
     let p = worth_digit (b / 16) (omega arith) in
@@ -75,7 +75,7 @@ even_spelled : (bs : List ℕ) → length (spelled bs) % 2 ≡ 0
 even_spelled [] = refl
 even_spelled (b ∷ bs) = let e = even_spelled bs in omega arith
 
-pub spells_spelled : (bs : List ℕ) → All Byte bs → spells (spelled bs) ≡ true
+pub spells_spelled : (bs : List ℕ) → AllByRecursion Byte bs → spells (spelled bs) ≡ true
 unfolding spells
 spells_spelled bs a = let d = digits_spelled bs a in let e = even_spelled bs in grind (arith, nat_tests)
 
@@ -84,7 +84,7 @@ abbrev firsts : ℕ → List ℕ → List ℕ
 firsts zero rest = []
 firsts (suc k) rest = (256 * get_or rest 0 0 + get_or rest 1 0) ∷ firsts k (drop 2 rest)
 
-in_bytes_firsts : (k : ℕ) (rest : List ℕ) → length rest ≡ 2 * k → All Byte rest → in_bytes (firsts k rest) ≡ rest
+in_bytes_firsts : (k : ℕ) (rest : List ℕ) → length rest ≡ 2 * k → AllByRecursion Byte rest → in_bytes (firsts k rest) ≡ rest
 in_bytes_firsts zero [] e a = refl
 in_bytes_firsts zero (x ∷ rest) e a = absurd (omega arith)
 in_bytes_firsts (suc k) [] e a = absurd (omega arith)
@@ -96,12 +96,12 @@ in_bytes_firsts (suc k) (h ∷ l ∷ rest) e a =
     let q : (256 * h + l) % 256 ≡ l = omega arith in
     λ i. p i ∷ q i ∷ in_bytes_firsts k rest (omega arith) a.1.1 i
 
-reframed : (k : ℕ) (frame : List ℕ) → length frame ≡ 2 + 2 * k → All Byte frame → frame ≡ framed_row (get_or frame 0 0) (get_or frame 1 0) (firsts k (drop 2 frame))
+reframed : (k : ℕ) (frame : List ℕ) → length frame ≡ 2 + 2 * k → AllByRecursion Byte frame → frame ≡ framed_row (get_or frame 0 0) (get_or frame 1 0) (firsts k (drop 2 frame))
 reframed k [] e a = absurd (omega arith)
 reframed k (t ∷ []) e a = absurd (omega arith)
 reframed k (t ∷ n ∷ rest) e a = ap (λ (bs : List ℕ). t ∷ n ∷ bs) (sym (in_bytes_firsts k rest (omega arith) a.1.1))
 
-bytes_in : (ns : List ℕ) → All Byte (in_bytes ns)
+bytes_in : (ns : List ℕ) → AllByRecursion Byte (in_bytes ns)
 bytes_in [] = tt
 bytes_in (n ∷ ns) = (omega arith, (omega arith, bytes_in ns))
 
@@ -151,10 +151,10 @@ same_row a b e = cc
 abbrev Means : TextRow → List ℕ → Type 0
 Means row frame = Lawful row × (frame ≡ frame_of row)
 
-small_name : (frame : List ℕ) → All Byte frame → 1 < length frame → get_or frame 1 0 < 256
+small_name : (frame : List ℕ) → AllByRecursion Byte frame → 1 < length frame → get_or frame 1 0 < 256
 small_name frame a h = All-get_or Byte frame 1 0 h a
 
-module _ (n : ℕ) (frame : List ℕ) (a : All Byte frame) where
+module _ (n : ℕ) (frame : List ℕ) (a : AllByRecursion Byte frame) where
   plain_means_frame : (r : PlainRow) → get_or frame 0 0 ≡ 1 → body 3 plain_row plain_breaks n frame ≡ Ok r → Means (Plain r) frame
   plain_means_frame r t e =
       let b = body_ok 3 plain_row plain_breaks n frame r e in
@@ -244,7 +244,7 @@ body_again count row breaks n frame r l e b =
     ∙ (λ i. kept n (e i) (breaks (e i)))
     ∙ ap (λ o. kept n r o) b
 
-frame_bytes : (row : TextRow) → Lawful row → All Byte (frame_of row)
+frame_bytes : (row : TextRow) → Lawful row → AllByRecursion Byte (frame_of row)
 frame_bytes (Plain r) l = (omega arith, (l.0, bytes_in (take 3 (plain_numbers r))))
 frame_bytes (Open r) l = (omega arith, (l.0, bytes_in (take 4 (open_numbers r))))
 frame_bytes (Bounded r) l = (omega arith, (l.0, bytes_in (take 6 (bounded_numbers r))))

@@ -1,6 +1,6 @@
 -- What the reader promises of whole lines and texts.
 use Rattle.std.specs.Prelude.{◌≡◌, ℕ, ◌<◌, ◌≤◌, min, ◌↔◌, List, [], ◌∷◌, ◌++◌, length, take, None, Ok}
-use Rattle.std.specs.List.{flat_map, AllByRecursion as All}
+use Rattle.std.specs.List.{flat_map, AllByRecursion}
 use Rattle.rows.specs.Bare.{plain_breaks, open_breaks, bounded_breaks}
 use Rattle.frames.specs.declared.frame.TextRow.{TextRow}
 use Rattle.frames.specs.declared.frame.TextRow.TheVariants.{Plain, Open, Bounded}
@@ -38,4 +38,4 @@ accepted rs = record { rows = rs; fault = None }
 abbrev pub AcceptedTextsAreWrittenRows : Type 0
 AcceptedTextsAreWrittenRows =
     (places : Counts) (rows : List TextRow) (text : List ℕ) →
-    (text_read places text ≡ accepted rows) ↔ ((text ≡ flat_map (λ row. line (frame_of row)) rows) × All Lawful rows × Fit places rows × (length text ≤ 16384))
+    (text_read places text ≡ accepted rows) ↔ ((text ≡ flat_map (λ row. line (frame_of row)) rows) × AllByRecursion Lawful rows × Fit places rows × (length text ≤ 16384))

@@ -1,6 +1,6 @@
 -- A task's pieces, copied one by one.
 use Rattle.std.proofs.Common.{◌≡◌, ℕ, zero, suc, ◌+◌, ◌<◌, ◌≤◌, ltb, ◌⊎◌, List, [], ◌∷◌, ◌++◌, map, length, get_or, take, set, Some, None, Option, sym, refl, ap, ◌∙◌, subst, ⊎_elim, add-one, arith}
-use Rattle.std.specs.List.{slice_get, AllByRecursion as All}
+use Rattle.std.specs.List.{slice_get, AllByRecursion}
 use Rattle.std.specs.Option.{option_map}
 use Rattle.std.proofs.lemmas.List.{take_more_set, map_more, take_all, length-set, get_or-take, get_or-map}
 use Rattle.std.proofs.lemmas.Option.{slice_get-get_or, slice_get_past}
@@ -50,7 +50,7 @@ copy_stop (Some t) n ps e h = ⊎_elim
     (cases_lt n (length t.pieces))
 
 -- a task that the load has is lawful
-pub lawful_nth : (ts : List task.Task) → All task.Lawful ts → (i : ℕ) (t : task.Task) → slice_get ts i ≡ Some t → task.Lawful t
+pub lawful_nth : (ts : List task.Task) → AllByRecursion task.Lawful ts → (i : ℕ) (t : task.Task) → slice_get ts i ≡ Some t → task.Lawful t
 lawful_nth [] a i t e = let z : ◌≡◌ {A = ℕ} 0 1 = cc in absurd (omega arith)
 lawful_nth (x ∷ xs) a zero t e = subst task.Lawful (some_of x t e) a.0
 lawful_nth (x ∷ xs) a (suc i) t e = lawful_nth xs a.1 i t e
@@ -59,7 +59,7 @@ abbrev pub Rightful : Option task.Task → Type 0
 Rightful None = Unit {0}
 Rightful (Some t) = task.Lawful t
 
-pub rightful_at : (ts : List task.Task) → All task.Lawful ts → (i : ℕ) → Rightful (found ts i)
+pub rightful_at : (ts : List task.Task) → AllByRecursion task.Lawful ts → (i : ℕ) → Rightful (found ts i)
 unfolding found
 rightful_at ts a i = cond_both (ltb i 32) (slice_get ts i) None Rightful (λ _. by (slice_get ts i) refl) (λ _. tt)
   where

@@ -1,6 +1,6 @@
 -- The top of a line is the least of the keys whose records it holds.
 use Rattle.std.proofs.Common.{◌≡◌, ℕ, zero, suc, ◌+◌, ◌<◌, ◌≤◌, true, cond, ◌&&◌, eqb, ◌⊎◌, List, [], ◌∷◌, length, get_or, Some, None, sum_by, Option, sym, refl, ap, ◌∙◌, subst, inl, inr, ⊎_elim, arith}
-use Rattle.std.specs.List.{ContainsAt as Has, AllByRecursion as All}
+use Rattle.std.specs.List.{ContainsAt as Has, AllByRecursion}
 use Rattle.std.proofs.lemmas.List.Sums.{sum_by-cons, get_or-le-sum_by}
 use Rattle.std.proofs.lemmas.Bool.Decides.{nat_tests}
 use Rattle.std.proofs.lemmas.Bool.{and_parts, eqb-true, cond-false, cases_Bool}
@@ -44,7 +44,7 @@ tally_found x i (Some a ∷ ks) h = ⊎_elim
     (λ e. (0, omega (arith, ap (λ y. y.number) e), ap (λ y. Some y.key) e))
     (one_cases x (record { number = i; key = a }))
 
-pub all_found : (P : Pick → Type 0) (x : Pick) (xs : List Pick) → All P xs → 0 < sum_by (one x) xs → P x
+pub all_found : (P : Pick → Type 0) (x : Pick) (xs : List Pick) → AllByRecursion P xs → 0 < sum_by (one x) xs → P x
 all_found P x [] a h = absurd (omega arith)
 all_found P x (y ∷ xs) a h = ⊎_elim
     (λ z. all_found P x xs a.1 (omega (arith, z, sum_by-cons (one x) y xs)))
@@ -53,7 +53,7 @@ all_found P x (y ∷ xs) a h = ⊎_elim
 
 module _ (xs : List Pick) (ks : List (Option ℕ)) (h : Holds xs ks) where
   -- what holds of each record that is held holds of the record of each key
-  pub held_key_has : (P : Pick → Type 0) → All P xs → (j a : ℕ) → get_or ks j None ≡ Some a → P (record { number = j; key = a })
+  pub held_key_has : (P : Pick → Type 0) → AllByRecursion P xs → (j a : ℕ) → get_or ks j None ≡ Some a → P (record { number = j; key = a })
   held_key_has P all j a e =
       let x : Pick = record { number = j; key = a } in
       all_found P x xs all (omega (arith, tally_at (one x) 0 ks j j a (omega arith) e, one_same x, h (one x)))

@@ -2,7 +2,7 @@
 use Rattle.std.proofs.Common.{◌≡◌, ℕ, ◌+◌, ◌/◌, ◌<◌, ◌≤◌, min, Bool, true, List, [], ◌∷◌, map, length, get_or, take, Some, None, Ok, Err, sum_by, Option, Result, sym, refl, ap, ◌∙◌, subst, arith}
 use Rattle.std.specs.Option.{option_map}
 use Rattle.std.specs.List.Sorted.{IsPermutation}
-use Rattle.std.specs.List.{AllByRecursion as All}
+use Rattle.std.specs.List.{AllByRecursion}
 use Rattle.std.proofs.ByRecursion.{All-map}
 use Rattle.std.proofs.lemmas.List.{length-map, length-take-le, get_or-map}
 use Rattle.std.proofs.lemmas.List.Sorted.{sum_by-IsPermutation, length_permutation}
@@ -29,7 +29,7 @@ module _ {X : Type 0} (pick : X → Pick) where
     first_picked : (x : X) (l : List X) → First b x l → First pick_before (pick x) (map pick l)
     first_picked x l first = All-map (λ y. (y ≡ pick x → ⊥) → pick_before (pick x) y ≡ true) pick l (go l first)
       where
-        go : (l : List X) → First b x l → All (λ y. (pick y ≡ pick x → ⊥) → pick_before (pick x) (pick y) ≡ true) l
+        go : (l : List X) → First b x l → AllByRecursion (λ y. (pick y ≡ pick x → ⊥) → pick_before (pick x) (pick y) ≡ true) l
         go [] a = tt
         go (y ∷ l) a = (λ differ. ranks x y ∙ a.0 (λ e. differ (ap pick e)), go l a.1)
 

@@ -65,20 +65,20 @@ impl Core {
     }
 
     pub(crate) fn now(&self) -> u64
-        ensures { result ≡ (state_of self.entry.now).now }
+        ensures { result ≡ (state_of self.now).now }
     {
         self.now
     }
 
     pub(crate) fn miss(&self) -> Option<Miss>
-        ensures { miss_of result ≡ (state_of self.entry.now).miss }
+        ensures { miss_of result ≡ (state_of self.now).miss }
     {
         self.miss
     }
 
     pub(crate) fn wake(&mut self, task: u64) -> Result<(), Refusal>
-        ensures did { stepped (answered result) (state_of self.exit.now) ≡ do_wake (tasks_of self.entry.now) (state_of self.entry.now) task }
-        ensures tasks { tasks_of self.exit.now ≡ tasks_of self.entry.now }
+        ensures did { stepped (answered result) (state_of self.new) ≡ do_wake (tasks_of self.old) (state_of self.old) task }
+        ensures tasks { tasks_of self.new ≡ tasks_of self.old }
     {
         if self.miss.is_some() {
             return Err(Refusal::Stopped);
@@ -99,8 +99,8 @@ impl Core {
     }
 
     pub(crate) fn end(&mut self, task: u64) -> Result<(), Refusal>
-        ensures did { stepped (answered result) (state_of self.exit.now) ≡ do_end (tasks_of self.entry.now) (state_of self.entry.now) task }
-        ensures tasks { tasks_of self.exit.now ≡ tasks_of self.entry.now }
+        ensures did { stepped (answered result) (state_of self.new) ≡ do_end (tasks_of self.old) (state_of self.old) task }
+        ensures tasks { tasks_of self.new ≡ tasks_of self.old }
     {
         if self.miss.is_some() {
             return Err(Refusal::Stopped);
@@ -121,8 +121,8 @@ impl Core {
     /// The instant grows by 1.
     fn pass(&mut self)
         requires { self.now.now < 1000000000000000 }
-        ensures state { state_of self.exit.now ≡ later (state_of self.entry.now) }
-        ensures tasks { tasks_of self.exit.now ≡ tasks_of self.entry.now }
+        ensures state { state_of self.new ≡ later (state_of self.old) }
+        ensures tasks { tasks_of self.new ≡ tasks_of self.old }
     {
         let at = self.now + 1;
         self.table.release(at);
@@ -130,8 +130,8 @@ impl Core {
     }
 
     pub(crate) fn tick(&mut self) -> Result<Ticked, Refusal>
-        ensures did { stepped (ticked result) (state_of self.exit.now) ≡ do_tick (tasks_of self.entry.now) (state_of self.entry.now) }
-        ensures tasks { tasks_of self.exit.now ≡ tasks_of self.entry.now }
+        ensures did { stepped (ticked result) (state_of self.new) ≡ do_tick (tasks_of self.old) (state_of self.old) }
+        ensures tasks { tasks_of self.new ≡ tasks_of self.old }
     {
         if self.miss.is_some() {
             return Err(Refusal::Stopped);

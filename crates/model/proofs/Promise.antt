@@ -1,7 +1,7 @@
 -- The verdict and the machine agree.
 use Rattle.std.proofs.Common.{◌≡◌, ℕ, zero, suc, ◌*◌, ◌<◌, ◌≤◌, List, map, sym, ap, ◌∙◌, subst, arith}
 use lib.ListN.{length-map}
-use Rattle.std.specs.List.{AllByRecursion as All}
+use Rattle.std.specs.List.{AllByRecursion}
 use Rattle.model.specs.Task.{Task, AllLawful}
 use Rattle.model.specs.Demand.{demand_of_all}
 use Rattle.model.specs.Settled.{Settled, LawfulSettled, Even, equally, Order, joined}
@@ -22,7 +22,7 @@ first_exceeded ks l t e = let m = overloaded_means ks t e in record { exceeded =
     before h zero b = omega (arith, all_none ks l)
     before h (suc s) b = h (suc s) (omega arith) b
 
-pub equal_splits_pass : (o : Order) (rows : List Settled) (others : List Task) → All LawfulSettled rows → All Even rows → AllLawful others → verdict (slowed 2 (joined o rows others)) ≡ accepted → verdict (joined o (map equally rows) others) ≡ accepted
+pub equal_splits_pass : (o : Order) (rows : List Settled) (others : List Task) → AllByRecursion LawfulSettled rows → AllByRecursion Even rows → AllLawful others → verdict (slowed 2 (joined o rows others)) ≡ accepted → verdict (joined o (map equally rows) others) ≡ accepted
 equal_splits_pass o rows others lr even lo e =
     let qs = joined o rows others in
     let ks = joined o (map equally rows) others in

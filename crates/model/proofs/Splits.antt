@@ -2,7 +2,7 @@
 use Rattle.std.proofs.Common.{◌≡◌, ℕ, zero, suc, ◌+◌, ◌-◌, ◌*◌, ◌/◌, ◌<◌, ◌≤◌, min, Bool, true, false, cond, ltb, leb, List, [], ◌∷◌, map, length, Some, None, Option, sym, refl, ap, ◌∙◌, inl, inr, add-mul, mul-le-mul_left, mul-lt-mul_of_pos_right, mul-add, arith}
 use Rattle.std.proofs.lemmas.Nat.{le-div, div_below}
 use lib.ListN.{length-map}
-use Rattle.std.specs.List.{slice_get, AllByRecursion as All}
+use Rattle.std.specs.List.{slice_get, AllByRecursion}
 use Rattle.std.proofs.lemmas.Bool.{cases_lt, lt-ltb, le-ltb}
 use Rattle.model.specs.Rows.{From, LawfulOpen}
 use Rattle.model.specs.Splits.{LawfulOffers, short_has, half, down, up, equal_split, equal_offers, proportional_split, proportional_offers, falling_offers, rising_offers}
@@ -38,11 +38,11 @@ length_up low zero = refl
 length_up low (suc n) = ap suc (length_up (low + 1) n)
 
 module _ (P : ℕ → Type 0) (f : ℕ → ℕ) where
-  all_down : (n top : ℕ) → n ≤ top → ((m : ℕ) → 1 ≤ m → m ≤ top → P (f m)) → All P (map f (down n))
+  all_down : (n top : ℕ) → n ≤ top → ((m : ℕ) → 1 ≤ m → m ≤ top → P (f m)) → AllByRecursion P (map f (down n))
   all_down zero top h p = tt
   all_down (suc n) top h p = (p (suc n) (omega arith) h, all_down n top (omega arith) p)
 
-  all_up : (low n top : ℕ) → 1 ≤ low → low + n ≤ top + 1 → ((m : ℕ) → 1 ≤ m → m ≤ top → P (f m)) → All P (map f (up low n))
+  all_up : (low n top : ℕ) → 1 ≤ low → low + n ≤ top + 1 → ((m : ℕ) → 1 ≤ m → m ≤ top → P (f m)) → AllByRecursion P (map f (up low n))
   all_up low zero top l h p = tt
   all_up low (suc n) top l h p = (p low l (omega arith), all_up (low + 1) n top (omega arith) (omega arith) p)
 

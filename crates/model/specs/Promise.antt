@@ -1,6 +1,6 @@
 -- What a verdict on a list of tasks says of every machine opened on it.
 use Rattle.std.specs.Prelude.{◌≡◌, ℕ, ◌<◌, ◌≤◌, true, ◌↔◌, List, [], ◌∷◌, map, length, ◌≢◌}
-use Rattle.std.specs.List.{AllByRecursion as All}
+use Rattle.std.specs.List.{AllByRecursion}
 use Rattle.model.specs.Task.{Piece, Task, AllLawful}
 use Rattle.model.specs.Demand.{demand_of_all}
 use Rattle.model.specs.Settled.{Settled, LawfulSettled, Even, equally, Order, joined}
@@ -41,6 +41,6 @@ pub record Agreement (ks : List Task) (v : Verdict) : Type 0 where
   pub overloaded_first : (t : ℕ) → v ≡ overloaded t → FirstExceeded ks t
   pub overloaded_misses : (t : ℕ) → v ≡ overloaded t → (start : ℕ) → start ≤ 999999999700000 → CanMiss ks start
   -- rows and further tasks that are accepted at half speed are accepted with equal splits
-  pub half_speed : (o : Order) (rows : List Settled) (others : List Task) → All LawfulSettled rows → All Even rows → AllLawful others → ks ≡ slowed 2 (joined o rows others) → v ≡ accepted → verdict (joined o (map equally rows) others) ≡ accepted
+  pub half_speed : (o : Order) (rows : List Settled) (others : List Task) → AllByRecursion LawfulSettled rows → AllByRecursion Even rows → AllLawful others → ks ≡ slowed 2 (joined o rows others) → v ≡ accepted → verdict (joined o (map equally rows) others) ≡ accepted
   pub too_many_when : (verdict_number v ≡ 10) ↔ (32 < length ks)
   pub no_round_when : (verdict_number v ≡ 11) ↔ ((length ks ≤ 32) × (100000 < round ks))

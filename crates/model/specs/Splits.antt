@@ -1,7 +1,7 @@
 -- Splits of an open row: the due offset of its first piece.
 -- T is the spacing, S the wait, and C1 and C2 are the costs before and after it.
 use Rattle.std.specs.Prelude.{ℕ, zero, suc, ◌+◌, ◌-◌, ◌*◌, ◌/◌, ◌≤◌, min, cond, List, [], ◌∷◌, map, length, nat_le}
-use Rattle.std.specs.List.{AllByRecursion as All}
+use Rattle.std.specs.List.{AllByRecursion}
 use Rattle.model.specs.Rows.{From}
 
 -- the split at which the short piece has n ticks of the T - S between its ready and its due instant;
@@ -21,7 +21,7 @@ proportional_split T C1 S C2 = short_has T C1 S C2 ((T - S) * min C1 C2 / (C1 + 
 
 -- a splitter offers an open row at most 10,000 splits, and each leaves room for both pieces
 abbrev pub LawfulOffers : ℕ → ℕ → List ℕ → Type 0
-LawfulOffers T S splits = (length splits ≤ 10000) × All (λ D1. From 1 D1 (T - S - 1)) splits
+LawfulOffers T S splits = (length splits ≤ 10000) × AllByRecursion (λ D1. From 1 D1 (T - S - 1)) splits
 
 -- n, n - 1, .. 1
 abbrev pub down : ℕ → List ℕ

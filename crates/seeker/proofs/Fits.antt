@@ -1,6 +1,6 @@
 -- Rows that break no rule, and the round of such rows beside a rest.
 use Rattle.std.proofs.Common.{◌≡◌, ℕ, ◌+◌, ◌-◌, List, [], ◌∷◌, ◌++◌, map, Some, None, Option, sym, refl, ap, ◌∙◌, arith}
-use Rattle.std.specs.List.{AllByRecursion as All}
+use Rattle.std.specs.List.{AllByRecursion}
 use Rattle.std.proofs.ByRecursion.{All-append, All-map, All-weaker}
 use Rattle.std.proofs.lemmas.List.{append_assoc, append-nil}
 use Rattle.std.proofs.lemmas.Bool.Decides.{nat_tests}
@@ -20,15 +20,15 @@ use Rattle.seeker.specs.Sought.{with_split}
 use Rattle.seeker.specs.Refused.{split_somewhere, round_of_all}
 
 -- a list of rows breaks no rule exactly when none of them does
-pub each_keeps : {R : Type 0} (fault : R → Option Refusal) (rows : List R) → first_fault fault rows ≡ None → All (λ r. fault r ≡ None) rows
+pub each_keeps : {R : Type 0} (fault : R → Option Refusal) (rows : List R) → first_fault fault rows ≡ None → AllByRecursion (λ r. fault r ≡ None) rows
 each_keeps fault [] e = tt
 each_keeps fault (r ∷ rows) e = go (fault r) refl e (each_keeps fault rows)
   where
-    go : (f : Option Refusal) → fault r ≡ f → either f (first_fault fault rows) ≡ None → (first_fault fault rows ≡ None → All (λ r. fault r ≡ None) rows) → All (λ r. fault r ≡ None) (r ∷ rows)
+    go : (f : Option Refusal) → fault r ≡ f → either f (first_fault fault rows) ≡ None → (first_fault fault rows ≡ None → AllByRecursion (λ r. fault r ≡ None) rows) → AllByRecursion (λ r. fault r ≡ None) (r ∷ rows)
     go None h k rest = (h, rest k)
     go (Some x) h k rest = let z : ◌≡◌ {A = ℕ} 0 1 = cc in absurd (omega arith)
 
-pub none_breaks : {R : Type 0} (fault : R → Option Refusal) (rows : List R) → All (λ r. fault r ≡ None) rows → first_fault fault rows ≡ None
+pub none_breaks : {R : Type 0} (fault : R → Option Refusal) (rows : List R) → AllByRecursion (λ r. fault r ≡ None) rows → first_fault fault rows ≡ None
 none_breaks fault [] h = refl
 none_breaks fault (r ∷ rows) h = ap (λ f. either f (first_fault fault rows)) h.0 ∙ none_breaks fault rows h.1
 
@@ -44,7 +44,7 @@ own_lawful r e = paired_lawful r.spacing r.wait r.split r.first r.second (r.firs
 somewhere_lawful : (o : OpenRow) → open_breaks o ≡ None → Lawful (split_somewhere o)
 somewhere_lawful o e = let l = open_keeps o.spacing o.first o.wait o.second e in own_lawful (with_split o 1) (split_keeps o.spacing o.first o.wait o.second 1 e (omega arith, omega arith))
 
-pub rows_lawful : (os : List OpenRow) → All (λ o. open_breaks o ≡ None) os → AllLawful (map split_somewhere os)
+pub rows_lawful : (os : List OpenRow) → AllByRecursion (λ o. open_breaks o ≡ None) os → AllLawful (map split_somewhere os)
 rows_lawful os h = All-map Lawful split_somewhere os (All-weaker (λ o. open_breaks o ≡ None) (λ o. Lawful (split_somewhere o)) somewhere_lawful os h)
 
 -- the round worked out row by row, none once it is above 100,000
@@ -53,7 +53,7 @@ join_round None os = None
 join_round (Some n) [] = Some n
 join_round (Some n) (o ∷ os) = join_round (round_told (lcm n o.spacing)) os
 
-joined : (os : List OpenRow) (ks : List Task) → AllLawful ks → All (λ o. open_breaks o ≡ None) os → join_round (round_told (round ks)) os ≡ round_told (round (ks ++ map split_somewhere os))
+joined : (os : List OpenRow) (ks : List Task) → AllLawful ks → AllByRecursion (λ o. open_breaks o ≡ None) os → join_round (round_told (round ks)) os ≡ round_told (round (ks ++ map split_somewhere os))
 joined [] ks lk lo = go (round_told (round ks)) refl
   where
     go : (f : Option ℕ) → round_told (round ks) ≡ f → join_round f [] ≡ round_told (round (ks ++ []))

@@ -2,7 +2,7 @@
 use Rattle.std.proofs.Common.{◌≡◌, ℕ, suc, ◌+◌, ◌-◌, ◌<◌, ◌≤◌, Bool, cond, List, [], ◌∷◌, ◌++◌, map, length, take, is_ok, Some, None, Option, sym, refl, ap, ◌∙◌, subst, inl, inr, arith}
 use Prim.Native.Nat.{◌∣◌}
 use native.Mathlib.Nat.{le_of_dvd}
-use Rattle.std.specs.List.{AllByRecursion as All}
+use Rattle.std.specs.List.{AllByRecursion}
 use Rattle.std.proofs.ByRecursion.{All-append, All-map, All-push, All-weaker}
 use Rattle.std.proofs.lemmas.List.{append_assoc, append-nil, length-append, length-map, length_push, take_at}
 use Rattle.std.proofs.lemmas.Bool.{le-leb}
@@ -27,15 +27,15 @@ use Rattle.seeker.proofs.Begins.{Ready, ready, begun}
 use Rattle.seeker.proofs.Fits.{each_keeps, none_breaks, open_keeps, split_keeps, own_lawful, rows_lawful}
 use Rattle.seeker.proofs.Queues.{in_order, in_order_long, length_queued, all_queued}
 
-all_parts : {X : Type 0} (P : X → Type 0) (xs ys : List X) → All P (xs ++ ys) → All P xs × All P ys
+all_parts : {X : Type 0} (P : X → Type 0) (xs ys : List X) → AllByRecursion P (xs ++ ys) → AllByRecursion P xs × AllByRecursion P ys
 all_parts P [] ys h = (tt, h)
 all_parts P (x ∷ xs) ys h = let r = all_parts P xs ys h.1 in ((h.0, r.0), r.1)
 
-all_from_map : {X Y : Type 0} (P : Y → Type 0) (f : X → Y) (xs : List X) → All P (map f xs) → All (λ x. P (f x)) xs
+all_from_map : {X Y : Type 0} (P : Y → Type 0) (f : X → Y) (xs : List X) → AllByRecursion P (map f xs) → AllByRecursion (λ x. P (f x)) xs
 all_from_map P f [] h = tt
 all_from_map P f (x ∷ xs) h = (h.0, all_from_map P f xs h.1)
 
-all_both : {X : Type 0} (P Q : X → Type 0) (xs : List X) → All P xs → All Q xs → All (λ x. P x × Q x) xs
+all_both : {X : Type 0} (P Q : X → Type 0) (xs : List X) → AllByRecursion P xs → AllByRecursion Q xs → AllByRecursion (λ x. P x × Q x) xs
 all_both P Q [] h k = tt
 all_both P Q (x ∷ xs) h k = ((h.0, k.0), all_both P Q xs h.1 k.1)
 
@@ -52,7 +52,7 @@ module _ (rest : List Task) (lawful : AllLawful rest) (m : ℕ) (pos : 0 < m) (n
   split_fits o x h f = (split_keeps o.spacing o.first o.wait o.second x h.0 f, h.1)
 
   -- the check of such rows accepts or is overloaded
-  decided : (rs : List SettledRow) → All Fits rs → length rest + length rs ≤ 32 → AcceptedOrOverloaded (verdict (beside rest rs))
+  decided : (rs : List SettledRow) → AllByRecursion Fits rs → length rest + length rs ≤ 32 → AcceptedOrOverloaded (verdict (beside rest rs))
   decided rs h few = go (means (beside rest rs))
     where
       law : AllLawful (beside rest rs)
@@ -74,7 +74,7 @@ module _ (rest : List Task) (lawful : AllLawful rest) (m : ℕ) (pos : 0 < m) (n
       go (far v a f) = absurd (omega (arith, low))
 
   -- the judge of such rows goes by the verdict alone
-  judges : (rs : List SettledRow) → All Fits rs → length rs ≤ 32 → judged rest rs ≡ passes rest rs
+  judges : (rs : List SettledRow) → AllByRecursion Fits rs → length rs ≤ 32 → judged rest rs ≡ passes rest rs
   judges rs h few =
       let lawful-all : first_fault settled_breaks rs ≡ None = none_breaks settled_breaks rs (All-weaker Fits (λ r. settled_breaks r ≡ None) (λ r f. f.0) rs h) in
       let none : table_fault settled_breaks rs ≡ None = ap (λ b. unless TooManyRows b (first_fault settled_breaks rs)) (le-leb (length rs) 32 few) ∙ lawful-all in
@@ -94,18 +94,18 @@ module _ (rest : List Task) (lawful : AllLawful rest) (m : ℕ) (pos : 0 < m) (n
       c.2,
     )
 
-  module _ (done : List SettledRow) (o : OpenRow) (kept : All Fits done) (fit : OpenFits o) (few : length rest + (length done + 1) ≤ 32) where
-    tried : (x : ℕ) → From 1 x (o.spacing - o.wait - 1) → All Fits (done ++ with_split o x ∷ [])
+  module _ (done : List SettledRow) (o : OpenRow) (kept : AllByRecursion Fits done) (fit : OpenFits o) (few : length rest + (length done + 1) ≤ 32) where
+    tried : (x : ℕ) → From 1 x (o.spacing - o.wait - 1) → AllByRecursion Fits (done ++ with_split o x ∷ [])
     tried x f = All-push Fits done (with_split o x) kept (split_fits o x fit f)
 
-    same_first : (xs : List ℕ) → All (λ x. From 1 x (o.spacing - o.wait - 1)) xs → first_passing (judged rest) done o xs ≡ first_passing (passes rest) done o xs
+    same_first : (xs : List ℕ) → AllByRecursion (λ x. From 1 x (o.spacing - o.wait - 1)) xs → first_passing (judged rest) done o xs ≡ first_passing (passes rest) done o xs
     same_first [] h = refl
     same_first (x ∷ xs) h =
         let e = judges (done ++ with_split o x ∷ []) (tried x h.0) (omega (arith, length_push done (with_split o x))) in
         let r = same_first xs h.1 in
         λ i. cond (e i) (Some (with_split o x)) (r i)
 
-    chosen : (xs : List ℕ) → All (λ x. From 1 x (o.spacing - o.wait - 1)) xs → Chosen done o xs (first_passing (passes rest) done o xs)
+    chosen : (xs : List ℕ) → AllByRecursion (λ x. From 1 x (o.spacing - o.wait - 1)) xs → Chosen done o xs (first_passing (passes rest) done o xs)
     chosen [] h = tt
     chosen (x ∷ xs) h = go (decided (done ++ with_split o x ∷ []) (tried x h.0) (omega (arith, length_push done (with_split o x)))) (chosen xs h.1)
       where
@@ -118,7 +118,7 @@ module _ (rest : List Task) (lawful : AllLawful rest) (m : ℕ) (pos : 0 < m) (n
         go (inr v) c = subst (Chosen done o (x ∷ xs)) (sym (ap (λ v. cond (is_ok v) (Some (with_split o x)) (first_passing (passes rest) done o xs)) v.1)) (later done o x xs _ v c)
 
   module _ (offers : ℕ → ℕ → ℕ → ℕ → List ℕ) (offered : (T C1 S C2 : ℕ) → LawfulOpen T C1 S C2 → LawfulOffers T S (offers T C1 S C2)) where
-    inside : (o : OpenRow) → OpenFits o → All (λ x. From 1 x (o.spacing - o.wait - 1)) (candidates offers o)
+    inside : (o : OpenRow) → OpenFits o → AllByRecursion (λ x. From 1 x (o.spacing - o.wait - 1)) (candidates offers o)
     inside o h = (offered o.spacing o.first o.wait o.second (open_keeps o.spacing o.first o.wait o.second h.0)).1
 
     -- what a seek comes to, from the rows `done` on
@@ -129,7 +129,7 @@ module _ (rest : List Task) (lawful : AllLawful rest) (m : ℕ) (pos : 0 < m) (n
     abbrev next : List SettledRow → OpenRow → List OpenRow → (List SettledRow → Bool) → Option SettledRow → Sought
     next done o os pass f = go_on f (record { settled = done; stuck = Some o.name }) (λ r. sought pass offers os (done ++ r ∷ []))
 
-    comes : (os : List OpenRow) (done : List SettledRow) → All OpenFits os → All Fits done → length rest + (length done + length os) ≤ 32 → verdict (beside rest done) ≡ accepted
+    comes : (os : List OpenRow) (done : List SettledRow) → AllByRecursion OpenFits os → AllByRecursion Fits done → length rest + (length done + length os) ≤ 32 → verdict (beside rest done) ≡ accepted
         → Comes os done (sought (passes rest) offers os done) × (sought (judged rest) offers os done ≡ sought (passes rest) offers os done)
     comes [] done ho hd few v = (([], sym (append-nil done), refl, v), refl)
     comes (o ∷ os) done ho hd few v =
@@ -155,7 +155,7 @@ settled_all rest offers (o ∷ os) before (r ∷ rs) h = ap suc (settled_all res
 -- a seek that begins
 module _ (rest : List Task) (lawful : AllLawful rest) (rows : List OpenRow) (places : ℕ) where
   module _ (r : Ready rest rows places) where
-    keeps : All (λ o. open_breaks o ≡ None) rows
+    keeps : AllByRecursion (λ o. open_breaks o ≡ None) rows
     keeps = each_keeps open_breaks rows r.lawful
 
     all : AllLawful (rest ++ map split_somewhere rows)
@@ -167,7 +167,7 @@ module _ (rest : List Task) (lawful : AllLawful rest) (rows : List OpenRow) (pla
     common : Common rest (round_of_all rest rows) × Common (map split_somewhere rows) (round_of_all rest rows)
     common = all_parts (λ k. k.spacing ∣ round_of_all rest rows) rest (map split_somewhere rows) (round_common _ (spaced_lawful _ all))
 
-    open_fits : All (λ o. (open_breaks o ≡ None) × (o.spacing ∣ round_of_all rest rows)) (queued rows)
+    open_fits : AllByRecursion (λ o. (open_breaks o ≡ None) × (o.spacing ∣ round_of_all rest rows)) (queued rows)
     open_fits = all_queued _ rows (all_both (λ o. open_breaks o ≡ None) (λ o. o.spacing ∣ round_of_all rest rows) rows keeps (all_from_map (λ k. k.spacing ∣ round_of_all rest rows) split_somewhere rows common.1))
 
   pub rest_decided : unready rest rows places ≡ None → AcceptedOrOverloaded (verdict rest)

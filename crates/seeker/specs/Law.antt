@@ -1,6 +1,6 @@
 -- The law of a seek, told of its answer and of the places before and after it.
 use Rattle.std.specs.Prelude.{◌≡◌, ℕ, ◌⊎◌, List, [], ◌∷◌, ◌++◌, Some, None, Err, Option}
-use Rattle.std.specs.List.{AllByRecursion as All}
+use Rattle.std.specs.List.{AllByRecursion}
 use Rattle.model.specs.declared.refusal.Refusal.TheVariants.{NoSplit}
 use Rattle.model.specs.Task.{Task}
 use Rattle.model.specs.Verdict.{Verdict, accepted, overloaded, verdict}
@@ -27,7 +27,7 @@ module _ (rest : List Task) where
 
   -- no split of these passes: each is overloaded
   abbrev pub NonePasses : List SettledRow → OpenRow → List ℕ → Type 0
-  NonePasses before o xs = All (λ x. IsOverloaded (verdict_at before o x)) xs
+  NonePasses before o xs = AllByRecursion (λ x. IsOverloaded (verdict_at before o x)) xs
 
   -- r is the open row with the first of the splits xs that passes
   pub record Kept (before : List SettledRow) (o : OpenRow) (xs : List ℕ) (r : SettledRow) : Type 0 where

@@ -1,6 +1,6 @@
 //! Open rows settled one after another.
 ghost use Rattle.std.specs.Prelude.{◌≡◌, ◌<◌, ◌≤◌, [], length, take, is_some, None};
-ghost use Rattle.std.specs.List.{AllByRecursion as All};
+ghost use Rattle.std.specs.List.{AllByRecursion};
 ghost use Rattle.rows.specs.Bare.{open_breaks};
 ghost use Rattle.seeker.specs.Refused.{ended};
 ghost use Rattle.seeker.specs.Sought.{candidates, first_passing, over, sought, with_split};
@@ -57,7 +57,7 @@ pub(crate) fn settle_rows<J: Judge, S: Splitter>(
     places: &mut [SettledRow],
 ) -> Result<(), Refusal>
     requires room { length rows.now ≤ length places.old }
-    requires lawful { All (λ o. open_breaks o ≡ None) rows.now }
+    requires lawful { AllByRecursion (λ o. open_breaks o ≡ None) rows.now }
     ensures answer { result ≡ ended (sought (J.Judge.accepts judge.now) (S.Splitter.offers splitter.now) rows.now []).stuck }
     ensures places { places.new ≡ over (sought (J.Judge.accepts judge.now) (S.Splitter.offers splitter.now) rows.now []).settled places.old }
 {

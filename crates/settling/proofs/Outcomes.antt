@@ -1,6 +1,6 @@
 -- Every answer is of one of the kinds.
 use Rattle.std.proofs.Common.{◌≡◌, ℕ, ◌+◌, ◌≤◌, Bool, true, false, leb, ◌⊎◌, List, [], ◌∷◌, ◌++◌, map, length, take, drop, Some, None, Option, sym, refl, ap, ◌∙◌, subst, inl, inr, arith}
-use Rattle.std.specs.List.{AllByRecursion as All}
+use Rattle.std.specs.List.{AllByRecursion}
 use Rattle.std.proofs.ByRecursion.{All-append, All-map, All-weaker}
 use Rattle.std.proofs.lemmas.List.{take_at}
 use Rattle.std.proofs.lemmas.Bool.{le-leb, leb-true}
@@ -36,7 +36,7 @@ use Rattle.settling.specs.Settled.{printed, rest_of, settling, sought_text, outc
 use Rattle.settling.proofs.Settles.{Keeps, OpenKeeps, Comes, comes}
 use Rattle.settling.proofs.Tables.{plains_keep, boundeds_keep}
 
-opens_keep : (rows : List TextRow) → All frames.Lawful rows → All OpenKeeps (open_rows rows)
+opens_keep : (rows : List TextRow) → AllByRecursion frames.Lawful rows → AllByRecursion OpenKeeps (open_rows rows)
 opens_keep [] a = tt
 opens_keep (Plain r ∷ rows) a = opens_keep rows a.1
 opens_keep (Open r ∷ rows) a = (a.0.1, opens_keep rows a.1)
@@ -48,7 +48,7 @@ plain_fine r h = plain_lawful r.spacing r.due r.cost (plain_keeps r.spacing r.du
 bounded_fine : (r : BoundedRow) → bounded_breaks r ≡ None → Lawful (bounded_own r)
 bounded_fine r h = paired_lawful r.spacing r.wait r.split r.first r.second r.total (bounded_keeps r.spacing r.first r.second r.total r.wait r.split h)
 
-rest_lawful : (rows : List TextRow) → All frames.Lawful rows → AllLawful (rest_of (plain_rows rows) (bounded_rows rows))
+rest_lawful : (rows : List TextRow) → AllByRecursion frames.Lawful rows → AllLawful (rest_of (plain_rows rows) (bounded_rows rows))
 rest_lawful rows a =
     All-append Lawful (map plain_own (plain_rows rows)) (map bounded_own (bounded_rows rows))
     (All-map Lawful plain_own (plain_rows rows) (All-weaker (λ r. plain_breaks r ≡ None) (λ r. Lawful (plain_own r)) plain_fine (plain_rows rows) (plains_keep rows a)))
@@ -59,7 +59,7 @@ module _ (rest : List Task) (lawful : AllLawful rest) (rows : List OpenRow) (h :
   abbrev s : Sought
   s = settling rest rows
 
-  came : All Keeps s.settled × (s.stuck ≡ None → length s.settled ≡ length rows)
+  came : AllByRecursion Keeps s.settled × (s.stuck ≡ None → length s.settled ≡ length rows)
   came = comes (passes rest) (queued rows) [] (length rows) (all_queued OpenKeeps rows (each_keeps open_breaks rows (begun rest rows 32 h).0.lawful)) tt (omega (arith, length_queued rows))
 
   accepts : verdict (beside rest s.settled) ≡ accepted
@@ -68,7 +68,7 @@ module _ (rest : List Task) (lawful : AllLawful rest) (rows : List OpenRow) (h :
       ∙ all_pass rest lawful rows 32 falling_offers falling_lawful h [] (over s.settled []) (ended s.stuck)
       (law rest lawful rows 32 falling_offers falling_lawful h [] (over s.settled []) (ended s.stuck) refl refl) (ap ended k)
 
-module _ (text : List ℕ) (rows : List TextRow) (read : text_read tables text ≡ frames.accepted rows) (a : All frames.Lawful rows) where
+module _ (text : List ℕ) (rows : List TextRow) (read : text_read tables text ≡ frames.accepted rows) (a : AllByRecursion frames.Lawful rows) where
   abbrev rest : List Task
   rest = rest_of (plain_rows rows) (bounded_rows rows)
 

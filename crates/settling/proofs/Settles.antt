@@ -1,6 +1,6 @@
 -- A seek that does not stop settles every row, and each settled row keeps the rules.
 use Rattle.std.proofs.Common.{◌≡◌, ℕ, ◌+◌, ◌-◌, ◌<◌, ◌≤◌, Bool, true, false, cond, List, [], ◌∷◌, ◌++◌, length, take, drop, Some, None, Ok, Err, Option, sym, refl, ap, ◌∙◌, subst, arith}
-use Rattle.std.specs.List.{AllByRecursion as All}
+use Rattle.std.specs.List.{AllByRecursion}
 use Rattle.std.proofs.ByRecursion.{All-push}
 use Rattle.std.proofs.lemmas.List.{length_push, take_at}
 use Rattle.std.proofs.lemmas.Bool.{cond_both}
@@ -32,20 +32,20 @@ Chosen None = Unit {0}
 Chosen (Some r) = Keeps r
 
 module _ (pass : List SettledRow → Bool) where
-  chosen : (done : List SettledRow) (o : OpenRow) (xs : List ℕ) → OpenKeeps o → All (λ x. From 1 x (o.spacing - o.wait - 1)) xs → Chosen (first_passing pass done o xs)
+  chosen : (done : List SettledRow) (o : OpenRow) (xs : List ℕ) → OpenKeeps o → AllByRecursion (λ x. From 1 x (o.spacing - o.wait - 1)) xs → Chosen (first_passing pass done o xs)
   chosen done o [] h a = tt
   chosen done o (x ∷ xs) h a =
       cond_both (pass (done ++ with_split o x ∷ [])) (Some (with_split o x)) (first_passing pass done o xs) Chosen
       (λ _. split_keeps o.spacing o.first o.wait o.second x h a.0)
       (λ _. chosen done o xs h a.1)
 
-  inside : (o : OpenRow) → OpenKeeps o → All (λ x. From 1 x (o.spacing - o.wait - 1)) (candidates falling_offers o)
+  inside : (o : OpenRow) → OpenKeeps o → AllByRecursion (λ x. From 1 x (o.spacing - o.wait - 1)) (candidates falling_offers o)
   inside o h = (falling_lawful o.spacing o.first o.wait o.second (open_keeps o.spacing o.first o.wait o.second h)).1
 
   abbrev pub Comes : ℕ → Sought → Type 0
-  Comes n s = All Keeps s.settled × (s.stuck ≡ None → length s.settled ≡ n)
+  Comes n s = AllByRecursion Keeps s.settled × (s.stuck ≡ None → length s.settled ≡ n)
 
-  pub comes : (os : List OpenRow) (done : List SettledRow) (n : ℕ) → All OpenKeeps os → All Keeps done → length done + length os ≡ n → Comes n (sought pass falling_offers os done)
+  pub comes : (os : List OpenRow) (done : List SettledRow) (n : ℕ) → AllByRecursion OpenKeeps os → AllByRecursion Keeps done → length done + length os ≡ n → Comes n (sought pass falling_offers os done)
   comes [] done n ho hd e = (hd, λ _. omega arith)
   comes (o ∷ os) done n ho hd e =
       go (first_passing pass done o (candidates falling_offers o)) (chosen done o (candidates falling_offers o) ho.0 (inside o ho.0))
@@ -72,7 +72,7 @@ module _ (rest : List Task) (rows : List OpenRow) (places : List SettledRow) (u 
   began : (refused rest rows (length places) ≡ None) × (s.stuck ≡ None)
   began = unrefused (refused rest rows (length places)) ok
 
-  came : All Keeps s.settled × (s.stuck ≡ None → length s.settled ≡ length rows)
+  came : AllByRecursion Keeps s.settled × (s.stuck ≡ None → length s.settled ≡ length rows)
   came = comes (passes rest) (queued rows) [] (length rows) (all_queued OpenKeeps rows (each_keeps open_breaks rows (begun rest rows (length places) began.0).0.lawful)) tt (omega (arith, length_queued rows))
 
   first_places : (n : ℕ) → n ≡ length rows → take n (seek_leaves rest falling_offers rows places) ≡ (settling rest rows).settled
@@ -80,8 +80,8 @@ module _ (rest : List Task) (rows : List OpenRow) (places : List SettledRow) (u 
       ap (λ f. take n (leaves f places s)) began.0
       ∙ take_at s.settled (drop (length s.settled) places) n (came.1 began.1 ∙ sym e)
 
-  pub all_keep : (n : ℕ) → n ≡ length rows → All Keeps (take n (seek_leaves rest falling_offers rows places))
-  all_keep n e = subst (All Keeps) (sym (first_places n e)) came.0
+  pub all_keep : (n : ℕ) → n ≡ length rows → AllByRecursion Keeps (take n (seek_leaves rest falling_offers rows places))
+  all_keep n e = subst (AllByRecursion Keeps) (sym (first_places n e)) came.0
 
   pub shown : (n : ℕ) → n ≡ length rows → length places ≡ 32 → settled_lines (take n (seek_leaves rest falling_offers rows places)) ≡ sought_text rest rows
   shown n e h =

@@ -1,6 +1,6 @@
 -- What a text that is read gives: rows that make tables.
 use Rattle.std.proofs.Common.{◌≡◌, ℕ, ◌+◌, ◌≤◌, min, ◌↔◌, List, [], ◌∷◌, ◌++◌, length, take, drop, Some, None, Ok, Err, Option, Result, sym, refl, ap, ◌∙◌, subst, arith}
-use Rattle.std.specs.List.{AllByRecursion as All}
+use Rattle.std.specs.List.{AllByRecursion}
 use Rattle.std.proofs.lemmas.List.{length-append, take_at}
 use Rattle.std.proofs.lemmas.Bool.{le-leb}
 use Rattle.model.specs.declared.refusal.Refusal.{Refusal}
@@ -19,19 +19,19 @@ use Rattle.frames.specs.Texts.{plain_rows, open_rows, bounded_rows, counts_of, O
 use Rattle.seeker.proofs.Fits.{none_breaks}
 use Rattle.settling.specs.Settled.{fault_text, rows_text, outcome_text, tables, settled_text}
 
-pub plains_keep : (rows : List TextRow) → All Lawful rows → All (λ r. plain_breaks r ≡ None) (plain_rows rows)
+pub plains_keep : (rows : List TextRow) → AllByRecursion Lawful rows → AllByRecursion (λ r. plain_breaks r ≡ None) (plain_rows rows)
 plains_keep [] a = tt
 plains_keep (Plain r ∷ rows) a = (a.0.1, plains_keep rows a.1)
 plains_keep (Open r ∷ rows) a = plains_keep rows a.1
 plains_keep (Bounded r ∷ rows) a = plains_keep rows a.1
 
-pub boundeds_keep : (rows : List TextRow) → All Lawful rows → All (λ r. bounded_breaks r ≡ None) (bounded_rows rows)
+pub boundeds_keep : (rows : List TextRow) → AllByRecursion Lawful rows → AllByRecursion (λ r. bounded_breaks r ≡ None) (bounded_rows rows)
 boundeds_keep [] a = tt
 boundeds_keep (Plain r ∷ rows) a = boundeds_keep rows a.1
 boundeds_keep (Open r ∷ rows) a = boundeds_keep rows a.1
 boundeds_keep (Bounded r ∷ rows) a = (a.0.1, boundeds_keep rows a.1)
 
-makes_table : {R : Type 0} (fault : R → Option Refusal) (rows : List R) → length rows ≤ 32 → All (λ r. fault r ≡ None) rows → table_fault fault rows ≡ None
+makes_table : {R : Type 0} (fault : R → Option Refusal) (rows : List R) → length rows ≤ 32 → AllByRecursion (λ r. fault r ≡ None) rows → table_fault fault rows ≡ None
 makes_table fault rows few a = ap (λ b. unless TooManyRows b (first_fault fault rows)) (le-leb (length rows) 32 few) ∙ none_breaks fault rows a
 
 -- the rows that stand in tables after a reading that was accepted
@@ -75,7 +75,7 @@ module _ (text : List ℕ) (p : List PlainRow) (op : List OpenRow) (b : List Bou
     w : (o ≡ accepted o.rows) × (c ≡ counts_of o.rows)
     w = accepted_when o c d.answer
 
-    facts : All Lawful o.rows × Fit (places_of p op b) o.rows
+    facts : AllByRecursion Lawful o.rows × Fit (places_of p op b) o.rows
     facts = let f = (law (places_of p op b) o.rows text).0 w.0 in (f.1, f.2)
 
     first_rows : {R : Type 0} (rows table after : List R) (n : ℕ) → after ≡ filled rows table → n ≡ length rows → take n after ≡ rows

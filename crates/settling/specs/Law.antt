@@ -1,6 +1,6 @@
 -- What an answer may be.
 use Rattle.std.specs.Prelude.{◌≡◌, ℕ, List, [], ◌∷◌, length, None}
-use Rattle.std.specs.List.{AllByRecursion as All}
+use Rattle.std.specs.List.{AllByRecursion}
 use Rattle.model.specs.declared.refusal.Refusal.TheVariants.{TooManyTasks, NoRound}
 use Rattle.model.specs.Verdict.{accepted, verdict}
 use Rattle.rows.specs.Bare.{settled_breaks}
@@ -18,7 +18,7 @@ use Rattle.settling.specs.Settled.{fault_text, number_text, settled_lines, rest_
 -- or one line says why not, of five kinds.
 pub data Answer (text out : List ℕ) : Type 0 where
   settles : (rows : List TextRow) (settled : List SettledRow) → text_read tables text ≡ frames.accepted rows → length settled ≡ length (open_rows rows)
-      → All (λ r. settled_breaks r ≡ None) settled → verdict (beside (rest_of (plain_rows rows) (bounded_rows rows)) settled) ≡ accepted → out ≡ settled_lines settled → Answer text out
+      → AllByRecursion (λ r. settled_breaks r ≡ None) settled → verdict (beside (rest_of (plain_rows rows) (bounded_rows rows)) settled) ≡ accepted → out ≡ settled_lines settled → Answer text out
   sticks : (name : ℕ) → out ≡ line (0xF1 ∷ name ∷ []) → Answer text out
   misreads : (f : Fault) → out ≡ fault_text f → Answer text out
   overloads : (t : ℕ) → out ≡ line (0xF3 ∷ four t) → Answer text out

@@ -1,6 +1,6 @@
 //! What is printed of a seek: settled rows, or the line of a refusal.
 ghost use Rattle.std.specs.Prelude.{◌≡◌, ◌++◌, IfOk, None, OnOk};
-ghost use Rattle.std.specs.List.{AllByRecursion as All};
+ghost use Rattle.std.specs.List.{AllByRecursion};
 ghost use Rattle.rows.specs.Bare.{settled_breaks};
 ghost use Rattle.lines.specs.Lines.{written};
 ghost use Rattle.settling.specs.Settled.{refusal_text, settled_line, settled_lines};
@@ -35,7 +35,7 @@ fn push_row(text: &mut Vec<u8>, row: &SettledRow) -> Result<(), AllocError>
 
 /// The lines of rows that keep the rules, and the line that ends them.
 pub(crate) fn settled_lines(heap: Global, rows: &[SettledRow]) -> Result<Vec<u8>, AllocError>
-    requires { All (λ r. settled_breaks r ≡ None) rows.now }
+    requires { AllByRecursion (λ r. settled_breaks r ≡ None) rows.now }
     ensures { IfOk result (λ v. v.items ≡ settled_lines rows.now) }
 {
     let mut text = Vec::new(heap);

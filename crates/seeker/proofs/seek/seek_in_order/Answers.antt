@@ -1,5 +1,5 @@
 use Rattle.std.proofs.Common.{◌≡◌, [], length, None, sym, ap, ◌∙◌, subst, arith}
-use Rattle.std.specs.List.{AllByRecursion as All}
+use Rattle.std.specs.List.{AllByRecursion}
 use Rattle.rows.specs.Bare.{open_breaks}
 use Rattle.seeker.specs.Judged.{judged}
 use Rattle.seeker.specs.Queued.{queued}
@@ -17,7 +17,7 @@ settle_rows-requires g c =
     let r = (begun (g.L.Load.tasks c.args.rest.now) rows (length c.args.places.now) c.requires.begun).0 in
     record {
       room = omega (arith, r.room, c.requires.same);
-      lawful = subst (All (λ o. open_breaks o ≡ None)) (sym c.order_rows.ensures) (all_queued (λ o. open_breaks o ≡ None) rows (each_keeps open_breaks rows r.lawful));
+      lawful = subst (AllByRecursion (λ o. open_breaks o ≡ None)) (sym c.order_rows.ensures) (all_queued (λ o. open_breaks o ≡ None) rows (each_keeps open_breaks rows r.lawful));
     }
 
 pub returns : goal.returns

@@ -1,5 +1,5 @@
 use Rattle.std.proofs.Common.{◌≡◌, ℕ, ◌-◌, List, length, take, sym, ap, ◌∙◌, subst, arith}
-use Rattle.std.specs.List.{AllByRecursion as All}
+use Rattle.std.specs.List.{AllByRecursion}
 use Rattle.std.proofs.lemmas.Result.{IfOk-weaker}
 use Rattle.rows.specs.declared.bare.SettledRow.{SettledRow}
 use Rattle.settling.specs.Settled.{settled_lines, rest_of}
@@ -9,7 +9,7 @@ use Rattle.settling.proofs.settle.settle_rows.Goals as goal
 pub settled_lines-requires : goal.settled_lines-requires
 settled_lines-requires c =
     let e = c.in-Ok.ensures in
-    subst (λ (l : List SettledRow). All Keeps (take (length c.args.opens.now - 0) l)) (sym e.places)
+    subst (λ (l : List SettledRow). AllByRecursion Keeps (take (length c.args.opens.now - 0) l)) (sym e.places)
     (all_keep (rest_of c.args.plains.now c.args.boundeds.now) c.args.opens.now c.args.places.now _ e.answer (length c.args.opens.now - 0) (omega arith))
 
 pub returns-in-Ok : goal.returns-in-Ok
