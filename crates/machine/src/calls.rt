@@ -65,13 +65,13 @@ impl Core {
     }
 
     pub(crate) fn now(&self) -> u64
-        ensures { result ≡ (state_of self.now).now }
+        ensures { result ≡ (state_of self.entry.now).now }
     {
-        self.now
+        self.entry.now
     }
 
     pub(crate) fn miss(&self) -> Option<Miss>
-        ensures { miss_of result ≡ (state_of self.now).miss }
+        ensures { miss_of result ≡ (state_of self.entry.now).miss }
     {
         self.miss
     }
