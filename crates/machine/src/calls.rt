@@ -67,7 +67,7 @@ impl Core {
     pub(crate) fn now(&self) -> u64
         ensures { result ≡ (state_of self.entry.now).now }
     {
-        self.entry.now
+        self.now
     }
 
     pub(crate) fn miss(&self) -> Option<Miss>
