@@ -1,7 +1,7 @@
 //! A load on a slower machine: its costs are multiplied.
 ghost use Rattle.std.specs.Prelude.{◌≡◌};
 ghost use Rattle.model.proofs.Demand.Slow.{factor_lawful};
-ghost use Rattle.model.specs.Slow.{slowed as slowed-tasks};
+ghost use Rattle.model.specs.Slow.{slowed as slowed_tasks};
 
 use crate::factor::Factor;
 use crate::load::Load;
@@ -15,7 +15,7 @@ pub struct Slowed<L> {
 }
 
 impl<L: Load> Load for Slowed<L> {
-    ghost tasks = { λ s. slowed-tasks s.factor.value (L.Load.tasks s.load) };
+    ghost tasks = { λ s. slowed_tasks s.factor.value (L.Load.tasks s.load) };
 
     ghost lawful = { λ s. factor_lawful s.factor.value s.factor.ok.0 (L.Load.tasks s.load) (L.Load.lawful s.load) };
 

@@ -1,7 +1,7 @@
 //! Two pieces with a wait between them, the common part of settled and bounded rows.
 ghost use Rattle.std.specs.Prelude.{◌≡◌, ◌<◌, ◌≤◌, Some, MatchOption};
 ghost use Rattle.model.specs.Asked.{nth_piece, demand_told};
-ghost use Rattle.model.specs.Rows.{paired, LawfulPaired, paired_asks, first as first-asks};
+ghost use Rattle.model.specs.Rows.{paired, LawfulPaired, paired_asks, first as first_asks};
 ghost use Rattle.model.specs.Run.{Greatest};
 
 /// The numbers of two pieces that keep the rules.
@@ -30,7 +30,7 @@ impl Pieces {
     /// What windows that begin at a wake can ask.
     fn from_wake(&self, length: u64) -> u64
         requires { length ≤ 1000000 }
-        ensures { result ≡ first-asks self.now.spacing self.now.split self.now.first self.now.total length }
+        ensures { result ≡ first_asks self.now.spacing self.now.split self.now.first self.now.total length }
     {
         let part = if length % self.spacing >= self.split {
             self.first

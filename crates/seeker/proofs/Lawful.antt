@@ -76,8 +76,8 @@ module _ (rest : List Task) (lawful : AllLawful rest) (m : ℕ) (pos : 0 < m) (n
   -- the judge of such rows goes by the verdict alone
   judges : (rs : List SettledRow) → AllByRecursion Fits rs → length rs ≤ 32 → judged rest rs ≡ passes rest rs
   judges rs h few =
-      let lawful-all : first_fault settled_breaks rs ≡ None = none_breaks settled_breaks rs (All-weaker Fits (λ r. settled_breaks r ≡ None) (λ r f. f.0) rs h) in
-      let none : table_fault settled_breaks rs ≡ None = ap (λ b. unless TooManyRows b (first_fault settled_breaks rs)) (le-leb (length rs) 32 few) ∙ lawful-all in
+      let lawful_all : first_fault settled_breaks rs ≡ None = none_breaks settled_breaks rs (All-weaker Fits (λ r. settled_breaks r ≡ None) (λ r f. f.0) rs h) in
+      let none : table_fault settled_breaks rs ≡ None = ap (λ b. unless TooManyRows b (first_fault settled_breaks rs)) (le-leb (length rs) 32 few) ∙ lawful_all in
       ap (λ f. if_table f (passes rest rs)) none
 
   -- what the first split that passes says

@@ -169,15 +169,15 @@ module _ (ks : List Task) (law : AllLawful ks) (s : State) (young : AllYoung s) 
   wake_same i =
       let k = task_at ks i in
       let g = progress_at s i in
-      let told-k = task_told ks i in
-      let told-g = progress_told s i in
+      let told_k = task_told ks i in
+      let told_g = progress_told s i in
       same_cond (stopped s.miss) (stopped s.miss) _ _ _ _ refl (λ t. refuse Stopped) (λ t.
       same_cond _ (not (ltb i (length ks))) _ _ _ _ (ap (λ n. not (ltb i n)) (length-map ks told_task)) (λ t. refuse NoTask) (λ b.
       same_cond _ (too_soon k s.now g.last) _ _ _ _ (cc) (λ t. refuse TooSoon) (λ t.
-      same_cond _ (is_open g.left) _ _ _ _ (ap (λ h. is_open h.left) told-g ∙ open_told g.left) (λ t. refuse JobOpen) (λ t.
+      same_cond _ (is_open g.left) _ _ _ _ (ap (λ h. is_open h.left) told_g ∙ open_told g.left) (λ t. refuse JobOpen) (λ t.
       record {
         answer = refl;
-        after = set_told s.now i _ (started k s.now) (ap (λ k. started k s.now) told-k);
+        after = set_told s.now i _ (started k s.now) (ap (λ k. started k s.now) told_k);
         young = set_each (YoungOne s.now) s.progress i (started k s.now) at_rest (young_start s.now k (lawful_at ks law i (ltb-true i (length ks) (not-false _ b)))) young;
       }))))
 
@@ -204,12 +204,12 @@ module _ (ks : List Task) (law : AllLawful ks) (s : State) (young : AllYoung s) 
       let i = c.number in
       let k = task_at ks i in
       let g = progress_at s i in
-      let told-k = task_told ks i in
-      let told-g = progress_told s i in
+      let told_k = task_told ks i in
+      let told_g = progress_told s i in
       let ready = sym (map_at (ready_due s.now) s.progress i at_rest) ∙ h.here in
       record {
         answer = ap (ran i) (number_at i);
-        after = set_told (s.now + 1) i _ (ran_tick k g) (ap (λ k. ran_tick k (progress_at (told_state s) i)) told-k ∙ ap (ran_tick (told_task k)) told-g ∙ ran_told s.now k g (n i) (young i));
+        after = set_told (s.now + 1) i _ (ran_tick k g) (ap (λ k. ran_tick k (progress_at (told_state s) i)) told_k ∙ ap (ran_tick (told_task k)) told_g ∙ ran_told s.now k g (n i) (young i));
         young = set_each (YoungOne (s.now + 1)) s.progress i (ran_tick k g) at_rest (young_run s.now c.key k g (n i) ready (young i)) all_later;
       }
 

@@ -35,13 +35,13 @@ returns g c =
     let s = sought (passes rest) offers (queued rows) [] in
     let is : refused rest rows (length places) ≡ None = not_refused _ _ c.in_ok-begin.ensures in
     let e = c.seek_in_order.ensures in
-    let by-law = law rest lawful rows (length places) offers (g.S.Splitter.lawful c.args.splitter.now) is places c.seek_in_order.new.places c.seek_in_order.result e.answer e.places in
+    let by_law = law rest lawful rows (length places) offers (g.S.Splitter.lawful c.args.splitter.now) is places c.seek_in_order.new.places c.seek_in_order.result e.answer e.places in
     let told : c.seek_in_order.result ≡ answer (refused rest rows (length places)) s = e.answer ∙ sym (ap (λ f. answer f s) is) in
     record {
       answer = told;
       begun = begins rest rows (length places) s _ told;
       places = e.places ∙ sym (ap (λ f. leaves f places s) is);
-      law = λ h. by-law;
-      accepted = all_pass rest lawful rows (length places) offers (g.S.Splitter.lawful c.args.splitter.now) is _ _ _ by-law;
+      law = λ h. by_law;
+      accepted = all_pass rest lawful rows (length places) offers (g.S.Splitter.lawful c.args.splitter.now) is _ _ _ by_law;
       alone = rest_decided rest lawful rows (length places);
     }
