@@ -1,5 +1,5 @@
 -- The lines of a text, one after the other.
-use Rattle.std.proofs.Common.{◌≡◌, ℕ, ◌+◌, ◌<◌, ◌≤◌, List, [], ◌∷◌, ◌++◌, length, get_or, drop, Some, None, Ok, Err, Result, sym, refl, ap, ◌∙◌, subst, arith}
+use Rattle.std.proofs.Common.{◌≡◌, ℕ, ◌+◌, ◌<◌, ◌≤◌, List, [], ◌∷◌, ◌++◌, length, get_or, drop, None, Ok, Err, Result, sym, refl, ap, ◌∙◌, subst}
 use Rattle.std.specs.List.{between}
 use Rattle.std.proofs.lemmas.List.{length_push, at_drop_all}
 use Rattle.rows.specs.declared.bare.PlainRow.{PlainRow}
@@ -9,7 +9,7 @@ use Rattle.frames.specs.declared.fault.Fault.{Fault}
 use Rattle.frames.specs.declared.frame.TextRow.{TextRow}
 use Rattle.frames.specs.declared.text.Counts.{Counts}
 use Rattle.frames.specs.Rows.{row_of}
-use Rattle.frames.specs.Texts.{counts_of, places_of, plain_rows, open_rows, bounded_rows, filled, Outcome, stopped, reads, lines, answered, Done}
+use Rattle.frames.specs.Texts.{places_of, plain_rows, open_rows, bounded_rows, filled, Outcome, stopped, reads, lines, answered, Done}
 use Rattle.frames.specs.Turns.{counts_after, plain_after, open_after, bounded_after}
 use Rattle.frames.proofs.Ends.{line_from}
 use Rattle.frames.proofs.Turning.{Held, held_counts, turn, turn_fault, told}

@@ -1,5 +1,5 @@
 -- A line reads as a row exactly where it is the line that the row is written as.
-use Rattle.std.proofs.Common.{◌≡◌, ℕ, zero, suc, ◌+◌, ◌*◌, ◌/◌, ◌%◌, ◌<◌, ◌≤◌, Bool, true, false, cond, ◌&&◌, eqb, ltb, leb, ◌↔◌, List, [], ◌∷◌, ◌++◌, length, get_or, take, drop, Some, None, Ok, Err, Option, Result, sym, refl, ap, ◌∙◌, subst, arith, eq-eqb, eqb-true}
+use Rattle.std.proofs.Common.{◌≡◌, ℕ, zero, suc, ◌+◌, ◌*◌, ◌/◌, ◌%◌, ◌<◌, ◌≤◌, Bool, true, false, cond, eqb, ◌↔◌, List, [], ◌∷◌, length, get_or, take, drop, Some, None, Ok, Err, Option, Result, sym, refl, ap, ◌∙◌, subst, arith, eq-eqb, eqb-true}
 use Rattle.std.specs.List.{AllByRecursion}
 use Rattle.std.proofs.lemmas.List.{get_or-drop}
 use Rattle.std.proofs.ByRecursion.{All-get_or}
@@ -16,7 +16,7 @@ use Rattle.frames.specs.declared.fault.Layer.TheVariants.{Text, Frame}
 use Rattle.frames.specs.declared.frame.TextRow.{TextRow}
 use Rattle.frames.specs.declared.frame.TextRow.TheVariants.{Plain, Open, Bounded}
 use Rattle.frames.specs.Hex.{worth, digit, all_digits, spells, bytes, spelled}
-use Rattle.frames.specs.Frames.{fault_at, ◌then◌, field, fields, digits_test, tag_of, length_test, kept, body, plain_row, plain_numbers, open_row, open_numbers, bounded_row, bounded_numbers, in_bytes, framed_row}
+use Rattle.frames.specs.Frames.{fault_at, ◌then◌, fields, digits_test, tag_of, length_test, kept, body, plain_row, plain_numbers, open_row, open_numbers, bounded_row, bounded_numbers, in_bytes, framed_row}
 use Rattle.frames.specs.Rows.{by_tag, row_of}
 use Rattle.frames.specs.Laws.{frame_of, Lawful}
 use Rattle.frames.proofs.Spelling.{spells_digits, spells_even}

@@ -1,5 +1,5 @@
 -- One line more: the tables, their counts and the rows that were read.
-use Rattle.std.proofs.Common.{◌≡◌, ℕ, ◌+◌, ◌⊎◌, List, [], ◌∷◌, ◌++◌, length, Some, None, Ok, Err, Result, sym, refl, ap, ◌∙◌, subst, inl, inr, arith}
+use Rattle.std.proofs.Common.{◌≡◌, ℕ, ◌+◌, List, [], ◌∷◌, ◌++◌, length, Ok, Err, Result, sym, refl, ap, ◌∙◌, subst, inl, inr, arith}
 use Rattle.std.proofs.lemmas.List.{append-nil}
 use Rattle.rows.specs.declared.bare.PlainRow.{PlainRow}
 use Rattle.rows.specs.declared.bare.OpenRow.{OpenRow}
@@ -10,9 +10,9 @@ use Rattle.frames.specs.declared.frame.TextRow.TheVariants.{Plain, Open, Bounded
 use Rattle.frames.specs.declared.text.Counts.{Counts}
 use Rattle.frames.specs.Frames.{◌then◌}
 use Rattle.frames.specs.Rows.{row_of}
-use Rattle.frames.specs.Texts.{plain_rows, open_rows, bounded_rows, counts_of, of_kind, room, filled, places_of, Outcome, stopped, go_on, reads}
+use Rattle.frames.specs.Texts.{plain_rows, open_rows, bounded_rows, counts_of, of_kind, room, places_of, stopped, go_on, reads}
 use Rattle.frames.specs.Turns.{stored, counts_after, plain_after, open_after, bounded_after}
-use Rattle.frames.proofs.Rooms.{Filling, More, NoMore, more_or_not, next_count, full}
+use Rattle.frames.proofs.Rooms.{Filling, more_or_not}
 
 pub plain_append : (xs ys : List TextRow) → plain_rows (xs ++ ys) ≡ plain_rows xs ++ plain_rows ys
 plain_append [] ys = refl

@@ -1,5 +1,5 @@
 -- What the reader promises of whole lines and texts.
-use Rattle.std.specs.Prelude.{◌≡◌, ℕ, ◌<◌, ◌≤◌, min, ◌↔◌, List, [], ◌∷◌, ◌++◌, length, take, None, Ok}
+use Rattle.std.specs.Prelude.{◌≡◌, ℕ, ◌<◌, ◌≤◌, min, ◌↔◌, List, length, take, None, Ok}
 use Rattle.std.specs.List.{flat_map, AllByRecursion}
 use Rattle.rows.specs.Bare.{plain_breaks, open_breaks, bounded_breaks}
 use Rattle.frames.specs.declared.frame.TextRow.{TextRow}

@@ -9,7 +9,7 @@ use Rattle.frames.specs.declared.fault.Layer.TheVariants.{Text, Table}
 use Rattle.frames.specs.declared.frame.TextRow.{TextRow}
 use Rattle.frames.specs.declared.frame.TextRow.TheVariants.{Plain, Open, Bounded}
 use Rattle.frames.specs.declared.text.Counts.{Counts}
-use Rattle.frames.specs.Frames.{fault_at, ◌then◌}
+use Rattle.frames.specs.Frames.{fault_at}
 use Rattle.frames.specs.Hex.{end_of_line}
 use Rattle.frames.specs.Rows.{row_of}
 

@@ -1,5 +1,5 @@
 -- What one line does to the tables and their counts.
-use Rattle.std.specs.Prelude.{ℕ, ◌+◌, min, cond, List, length, Ok, Err, Result, nat_lt, slice_set}
+use Rattle.std.specs.Prelude.{ℕ, min, cond, List, length, Ok, Err, Result, nat_lt, slice_set}
 use Rattle.rows.specs.declared.bare.PlainRow.{PlainRow}
 use Rattle.rows.specs.declared.bare.OpenRow.{OpenRow}
 use Rattle.rows.specs.declared.bare.BoundedRow.{BoundedRow}

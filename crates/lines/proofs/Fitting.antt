@@ -1,5 +1,5 @@
 -- Rows that keep the rules have numbers that fit their fields.
-use Rattle.std.proofs.Common.{◌≡◌, ℕ, ◌+◌, ◌<◌, ◌≤◌, Bool, true, cond, List, [], ◌∷◌, take, Some, None, Option, arith}
+use Rattle.std.proofs.Common.{◌≡◌, ℕ, ◌≤◌, true, List, take, Some, None, Option, arith}
 use Rattle.std.proofs.lemmas.Bool.Decides.{nat_tests}
 use Rattle.model.proofs.Rules.Keeps.{plain_keeps, settled_keeps, bounded_keeps}
 use Rattle.rows.specs.declared.bare.PlainRow.{PlainRow}

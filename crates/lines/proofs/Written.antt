@@ -1,7 +1,6 @@
 -- Lines written byte by byte.
-use Rattle.std.proofs.Common.{◌≡◌, ℕ, zero, suc, ◌+◌, ◌*◌, ◌/◌, ◌%◌, ◌^◌, ◌<◌, ◌≤◌, Bool, true, false, cond, ◌&&◌, ltb, leb, List, [], ◌∷◌, ◌++◌, length, get_or, take, drop, set, Some, None, Option, sym, refl, ap, ◌∙◌, subst, arith, le-leb}
-use borrow.Author.Tests.{lt-leb}
-use Rattle.std.proofs.lemmas.List.{append_assoc, take_more_set, take_more, take-set-le, take_all, length-set, at_drop_more, at_drop_all}
+use Rattle.std.proofs.Common.{◌≡◌, ℕ, zero, suc, ◌+◌, ◌*◌, ◌/◌, ◌%◌, ◌<◌, ◌≤◌, Bool, true, false, cond, ◌&&◌, leb, List, [], ◌∷◌, ◌++◌, length, get_or, take, drop, set, Some, None, Option, sym, refl, ap, ◌∙◌, arith, le-leb}
+use Rattle.std.proofs.lemmas.List.{append_assoc, take_more_set, take_more, take_all, length-set, at_drop_more, at_drop_all}
 use Rattle.std.proofs.lemmas.Bool.Decides.{nat_tests}
 use Rattle.frames.specs.Hex.{digit, spelled, line}
 use Rattle.frames.specs.Frames.{in_bytes, framed_row}

@@ -2,7 +2,6 @@
 use Rattle.std.proofs.Common.{◌≡◌, ℕ, ◌+◌, ◌<◌, ◌≤◌, eqb, leb, drop, Some, Option, sym, refl, ap, ◌∙◌, arith}
 use Rattle.std.proofs.lemmas.List.{drop_all}
 use Rattle.std.proofs.lemmas.Bool.{cond-true, cond-false, cond_both, eqb-true}
-use Rattle.model.specs.Task as task
 use Rattle.model.specs.Machine as model
 use Rattle.machine.specs.declared.numbers.Numbers.{Numbers}
 use Rattle.machine.specs.declared.entry.Phase.{Phase}

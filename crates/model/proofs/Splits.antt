@@ -1,11 +1,10 @@
 -- Every offer of the splitters is lawful, and which one is number k.
-use Rattle.std.proofs.Common.{◌≡◌, ℕ, zero, suc, ◌+◌, ◌-◌, ◌*◌, ◌/◌, ◌<◌, ◌≤◌, min, Bool, true, false, cond, ltb, leb, List, [], ◌∷◌, map, length, Some, None, Option, sym, refl, ap, ◌∙◌, inl, inr, add-mul, mul-le-mul_left, mul-lt-mul_of_pos_right, mul-add, arith}
+use Rattle.std.proofs.Common.{◌≡◌, ℕ, zero, suc, ◌+◌, ◌-◌, ◌*◌, ◌/◌, ◌<◌, ◌≤◌, min, map, length, Some, None, sym, refl, ap, ◌∙◌, add-mul, mul-le-mul_left, mul-lt-mul_of_pos_right, mul-add, arith}
 use Rattle.std.proofs.lemmas.Nat.{le-div, div_below}
 use lib.ListN.{length-map}
 use Rattle.std.specs.List.{slice_get, AllByRecursion}
-use Rattle.std.proofs.lemmas.Bool.{cases_lt, lt-ltb, le-ltb}
 use Rattle.model.specs.Rows.{From, LawfulOpen}
-use Rattle.model.specs.Splits.{LawfulOffers, short_has, half, down, up, equal_split, equal_offers, proportional_split, proportional_offers, falling_offers, rising_offers}
+use Rattle.model.specs.Splits.{LawfulOffers, short_has, half, down, up, equal_offers, proportional_offers, falling_offers, rising_offers}
 use Rattle.model.proofs.Tests.{if_le}
 
 -- offer number k

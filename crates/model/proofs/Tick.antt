@@ -1,9 +1,9 @@
 -- A tick is earliest deadline first.
-use Rattle.std.proofs.Common.{◌≡◌, ℕ, ◌^◌, ◌<◌, ◌≤◌, Bool, true, false, cond, leb, ◌⊎◌, List, [], ◌∷◌, map, get_or, Some, None, Option, sym, refl, ap, ◌∙◌, inl, inr, arith}
+use Rattle.std.proofs.Common.{◌≡◌, ℕ, ◌^◌, Bool, true, cond, leb, List, [], ◌∷◌, map, get_or, Some, None, Option, sym, refl, ap, ◌∙◌, inl, inr, arith}
 use Rattle.std.proofs.lemmas.Bool.{cases_lt, cases_Bool, leb-true, le-leb, cond_both}
 use Rattle.model.specs.declared.refusal.Refusal.{Refusal}
 use Rattle.model.specs.Task.{Piece, Task}
-use Rattle.model.specs.Machine.{Answer, refused, Progress, State, Step, Pick, Chosen, at_rest, since, due_if, ready_due, late_due, least, front, late, progress_at, stopped, runs, misses}
+use Rattle.model.specs.Machine.{refused, State, Step, Pick, Chosen, since, due_if, ready_due, late_due, front, late, progress_at, stopped, runs, misses}
 use Rattle.model.specs.Laws.{Unfinished, Ready, Late, EarliestBy, TickSays, TickIsEarliestDeadlineFirst}
 use Rattle.model.proofs.Least.{chosen, key_at}
 

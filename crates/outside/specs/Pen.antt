@@ -1,5 +1,5 @@
 -- The tasks of a pen: a clock of one piece, and strokes of three pieces.
-use Rattle.std.specs.Prelude.{ℕ, ◌+◌, cond, nat_le, List, [], ◌∷◌}
+use Rattle.std.specs.Prelude.{ℕ, ◌+◌, List, [], ◌∷◌}
 use Rattle.std.proofs.Common.{arith}
 use Rattle.model.specs.Task.{Piece, Task, Lawful, AllLawful}
 use Rattle.model.specs.Rows.{From, piece, plain}

@@ -11,7 +11,7 @@ use Rattle.model.specs.Rows.{From, LawfulOpen}
 use Rattle.model.specs.Rules.{unless, first_fault, table_fault}
 use Rattle.model.specs.Splits.{LawfulOffers}
 use Rattle.model.specs.Task.{Task, Lawful, AllLawful}
-use Rattle.model.specs.Verdict.{Verdict, accepted, overloaded, verdict}
+use Rattle.model.specs.Verdict.{Verdict, accepted, verdict}
 use Rattle.model.specs.declared.refusal.Refusal.TheVariants.{TooManyRows}
 use Rattle.model.proofs.Round.Spacings.{spaced_lawful, round_pos, round_common, round_least}
 use Rattle.model.proofs.Verdict.Means.{Means, fits, exceeds, many, far, means}

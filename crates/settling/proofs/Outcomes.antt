@@ -1,5 +1,5 @@
 -- Every answer is of one of the kinds.
-use Rattle.std.proofs.Common.{◌≡◌, ℕ, ◌+◌, ◌≤◌, Bool, true, false, leb, ◌⊎◌, List, [], ◌∷◌, ◌++◌, map, length, take, drop, Some, None, Option, sym, refl, ap, ◌∙◌, subst, inl, inr, arith}
+use Rattle.std.proofs.Common.{◌≡◌, ℕ, ◌+◌, Bool, true, false, leb, List, [], ◌∷◌, map, length, drop, Some, None, Option, sym, refl, ap, ◌∙◌, subst, inl, inr, arith}
 use Rattle.std.specs.List.{AllByRecursion}
 use Rattle.std.proofs.ByRecursion.{All-append, All-map, All-weaker}
 use Rattle.std.proofs.lemmas.List.{take_at}
@@ -9,11 +9,11 @@ use Rattle.model.specs.declared.refusal.Refusal.TheVariants.{TooManyTasks, NoPla
 use Rattle.model.specs.Rules.{unless, either, first_fault}
 use Rattle.model.specs.Splits.{falling_offers}
 use Rattle.model.specs.Task.{Task, Lawful, AllLawful}
-use Rattle.model.specs.Verdict.{Verdict, accepted, verdict}
+use Rattle.model.specs.Verdict.{accepted, verdict}
 use Rattle.model.proofs.Demand.Rows.{plain_lawful, paired_lawful}
 use Rattle.model.proofs.Rules.Keeps.{plain_keeps, bounded_keeps}
 use Rattle.model.proofs.Splits.{falling_lawful}
-use Rattle.rows.specs.Bare.{plain_breaks, plain_own, open_breaks, bounded_breaks, bounded_own, settled_breaks}
+use Rattle.rows.specs.Bare.{plain_breaks, plain_own, open_breaks, bounded_breaks, bounded_own}
 use Rattle.rows.specs.declared.bare.OpenRow.{OpenRow}
 use Rattle.rows.specs.declared.bare.PlainRow.{PlainRow}
 use Rattle.rows.specs.declared.bare.BoundedRow.{BoundedRow}
@@ -33,7 +33,7 @@ use Rattle.frames.specs.Laws as frames
 use Rattle.frames.specs.Texts.{plain_rows, open_rows, bounded_rows, text_read}
 use Rattle.settling.specs.Law.{Answer, settles, sticks, misreads, overloads, many, far}
 use Rattle.settling.specs.Settled.{printed, rest_of, settling, sought_text, outcome_text, tables, settled_text}
-use Rattle.settling.proofs.Settles.{Keeps, OpenKeeps, Comes, comes}
+use Rattle.settling.proofs.Settles.{Keeps, OpenKeeps, comes}
 use Rattle.settling.proofs.Tables.{plains_keep, boundeds_keep}
 
 opens_keep : (rows : List TextRow) → AllByRecursion frames.Lawful rows → AllByRecursion OpenKeeps (open_rows rows)

@@ -1,5 +1,5 @@
 -- A seek that does not stop settles every row, and each settled row keeps the rules.
-use Rattle.std.proofs.Common.{◌≡◌, ℕ, ◌+◌, ◌-◌, ◌<◌, ◌≤◌, Bool, true, false, cond, List, [], ◌∷◌, ◌++◌, length, take, drop, Some, None, Ok, Err, Option, sym, refl, ap, ◌∙◌, subst, arith}
+use Rattle.std.proofs.Common.{◌≡◌, ℕ, ◌+◌, ◌-◌, Bool, List, [], ◌∷◌, ◌++◌, length, take, drop, Some, None, Ok, Option, sym, refl, ap, ◌∙◌, subst, arith}
 use Rattle.std.specs.List.{AllByRecursion}
 use Rattle.std.proofs.ByRecursion.{All-push}
 use Rattle.std.proofs.lemmas.List.{length_push, take_at}
@@ -8,14 +8,14 @@ use Rattle.model.specs.declared.refusal.Refusal.{Refusal}
 use Rattle.model.specs.Rows.{From}
 use Rattle.model.specs.Splits.{falling_offers}
 use Rattle.model.specs.Task.{Task}
-use Rattle.model.specs.Verdict.{Verdict, accepted}
+use Rattle.model.specs.Verdict.{Verdict}
 use Rattle.model.proofs.Splits.{falling_lawful}
 use Rattle.rows.specs.Bare.{open_breaks, settled_breaks}
 use Rattle.rows.specs.declared.bare.OpenRow.{OpenRow}
 use Rattle.rows.specs.declared.bare.SettledRow.{SettledRow}
 use Rattle.seeker.specs.Queued.{queued}
 use Rattle.seeker.specs.Refused.{refused, answer, leaves, ended, seek_answers, seek_leaves}
-use Rattle.seeker.specs.Sought.{with_split, candidates, passes, first_passing, Sought, go_on, sought, over}
+use Rattle.seeker.specs.Sought.{with_split, candidates, passes, first_passing, Sought, go_on, sought}
 use Rattle.seeker.proofs.Begins.{begun}
 use Rattle.seeker.proofs.Fits.{each_keeps, open_keeps, split_keeps}
 use Rattle.seeker.proofs.Queues.{length_queued, all_queued}

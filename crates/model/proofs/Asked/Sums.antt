@@ -4,7 +4,7 @@ use Rattle.std.specs.List.{slice_get}
 use Rattle.std.proofs.lemmas.List.{take_all}
 use Rattle.std.proofs.lemmas.Bool.{le-leb, cases_Bool}
 use Rattle.model.specs.Task.{Task}
-use Rattle.model.specs.Demand.{demand, demand_of_all}
+use Rattle.model.specs.Demand.{demand_of_all}
 use Rattle.model.specs.Asked.{told, found, demand_told}
 use Rattle.model.specs.Told.{told_demand_of_all}
 use Rattle.model.proofs.Asked.Places.{found_in}

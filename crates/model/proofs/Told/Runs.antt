@@ -6,7 +6,6 @@ use Rattle.model.specs.declared.refusal.Refusal.{Refusal}
 use Rattle.model.specs.declared.refusal.Refusal.TheVariants.{Stopped, NoTask, TooSoon, JobOpen, LastInstant, NotFront}
 use Rattle.model.specs.Task.{Piece, Task, Ordered, Lawful, AllLawful}
 use Rattle.model.specs.Machine.{Call, wake, end, tick, ran, missed, Progress, State, Step, Pick, Chosen, at_rest, asleep, opened, due_if, ready_due, late_due, least, front, late, is_front, no_task, task_at, progress_at, piece_number, limit_of, limit, rest_of, too_soon, is_open, stopped, started, runs, misses, finished, one_more, ran_tick, refuses, do_wake, do_end, do_tick, step, after_all, answers}
-use Rattle.model.specs.Asked.{told}
 use Rattle.model.specs.Told.{told_piece, told_task, told_tasks, told_progress, told_state, ToldSuffices}
 use Rattle.model.proofs.Each.{lawful_at}
 use Rattle.model.proofs.Least.{chosen}

@@ -1,6 +1,6 @@
-use Rattle.std.proofs.Common.{◌≡◌, ◌+◌, ◌*◌, true, get_or, sym, ◌∙◌, arith}
+use Rattle.std.proofs.Common.{◌+◌, ◌*◌, sym, arith}
 use Rattle.std.proofs.lemmas.List.{get_or_past}
-use Rattle.frames.specs.Hex.{bytes, all_digits}
+use Rattle.frames.specs.Hex.{bytes}
 use Rattle.frames.proofs.Spelling.{byte_is, digit_small, length_bytes, spells_digits}
 use Rattle.frames.proofs.frame.byte_at.Goals as goal
 

@@ -1,4 +1,4 @@
-use Rattle.std.proofs.Common.{◌≡◌, sym, ◌∙◌}
+use Rattle.std.proofs.Common.{sym, ◌∙◌}
 use Rattle.frames.proofs.Steps.{tested_spells}
 use Rattle.frames.proofs.frame.read_frame.Goals as goal
 

@@ -1,4 +1,4 @@
-use Rattle.std.proofs.Common.{◌≡◌, ap, ◌∙◌}
+use Rattle.std.proofs.Common.{ap, ◌∙◌}
 use Rattle.frames.proofs.Spelling.{spells_even}
 use Rattle.frames.proofs.Steps.{tag_none, tag_some, Tag}
 use Rattle.frames.proofs.frame.tag_at.Goals as goal

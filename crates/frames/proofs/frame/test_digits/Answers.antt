@@ -1,4 +1,4 @@
-use Rattle.std.proofs.Common.{◌≡◌, true, sym, ◌∙◌, arith}
+use Rattle.std.proofs.Common.{sym, ◌∙◌, arith}
 use Rattle.frames.proofs.Steps.{digits_more, digits_stop, digits_end, digits_bad, digits_odd, digits_good}
 use Rattle.frames.proofs.frame.test_digits.Goals as goal
 

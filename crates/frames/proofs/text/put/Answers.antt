@@ -1,4 +1,4 @@
-use Rattle.std.proofs.Common.{◌≤◌, ◌⊎◌, length, sym, inl, inr}
+use Rattle.std.proofs.Common.{◌≤◌, ◌⊎◌, length, inl, inr}
 use Rattle.frames.proofs.Rooms.{room_full, room_left, stored_full, stored_left}
 use Rattle.frames.proofs.text.put.Goals as goal
 

@@ -1,6 +1,6 @@
-use Rattle.std.proofs.Common.{◌≡◌, sym, refl, ◌∙◌, arith}
+use Rattle.std.proofs.Common.{arith}
 use Rattle.std.proofs.lemmas.Result.{err_from_is_err_and}
-use Rattle.frames.proofs.Lined.{Line, Turned, again, stops, ends}
+use Rattle.frames.proofs.Lined.{again, stops, ends}
 use Rattle.frames.proofs.text.read_lines.Goals as goal
 
 pub returns-in_err-counts : goal.returns-in_err-counts

@@ -1,4 +1,4 @@
-use Rattle.std.proofs.Common.{◌≡◌, sym, ◌∙◌, rules}
+use Rattle.std.proofs.Common.{sym, ◌∙◌, rules}
 use Rattle.frames.proofs.Accepted.{accepted_texts}
 use Rattle.frames.proofs.Ends.{tested_short}
 use Rattle.frames.proofs.text.read_text.Goals as goal

@@ -1,4 +1,4 @@
-use Rattle.std.proofs.Common.{◌≡◌, ◌∙◌, inl, inr, arith, eq-eqb, ne_eqb}
+use Rattle.std.proofs.Common.{◌∙◌, arith, eq-eqb, ne_eqb}
 use Rattle.frames.proofs.Ends.{ended_last, ended_none, text_long, text_open, text_good}
 use Rattle.frames.proofs.text.test_text.Goals as goal
 use Rattle.frames.proofs.text.test_text.Goals.{else-text-gt0-via-then-text-gt0+else-text-ne-END, else-text-gt0-via-else-text-gt0}

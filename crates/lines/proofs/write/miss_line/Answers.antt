@@ -1,4 +1,4 @@
-use Rattle.std.proofs.Common.{◌≡◌, ℕ, List, [], ◌∷◌, get_or, sym, ap, ◌∙◌, arith}
+use Rattle.std.proofs.Common.{ℕ, List, [], ◌∷◌, get_or, sym, ap, ◌∙◌, arith}
 use Rattle.frames.specs.Hex.{line}
 use Rattle.lines.proofs.Written.{miss_is}
 use Rattle.lines.proofs.write.miss_line.Goals as goal

@@ -1,4 +1,4 @@
-use Rattle.std.proofs.Common.{◌≡◌, sym, ◌∙◌, arith}
+use Rattle.std.proofs.Common.{sym, ◌∙◌, arith}
 use Rattle.lines.specs.Lines.{row_text}
 use Rattle.lines.proofs.Written.{row_told}
 use Rattle.lines.proofs.write.row_line.Goals as goal

@@ -1,6 +1,6 @@
-use Rattle.std.proofs.Common.{◌≡◌, ℕ, ◌*◌, ◌/◌, ◌<◌, ◌≤◌, sym, ap, ◌∙◌, inl, inr, mul-zero, zero-mul, arith}
+use Rattle.std.proofs.Common.{◌≡◌, ℕ, ◌*◌, ◌/◌, sym, ap, ◌∙◌, inl, inr, mul-zero, zero-mul, arith}
 use native.Mathlib.Nat.{zero-div}
-use Rattle.model.specs.Round.{lcm, gcd, gcd_in}
+use Rattle.model.specs.Round.{lcm, gcd}
 use Rattle.model.proofs.Round.Lcm.{gcd_pos}
 use Rattle.model.proofs.Round.Told.{told_some, told_none}
 use Rattle.loads.proofs.multiple.common_multiple.Goals as goal

@@ -1,4 +1,4 @@
-use Rattle.std.proofs.Common.{◌≡◌, sym, ◌∙◌, arith, rules}
+use Rattle.std.proofs.Common.{sym, ◌∙◌, rules}
 use Rattle.model.proofs.Round.Lcm.{gcd_step, gcd_zero}
 use Rattle.loads.proofs.multiple.greatest_divisor.Goals as goal
 

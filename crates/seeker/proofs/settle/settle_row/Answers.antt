@@ -1,4 +1,4 @@
-use Rattle.std.proofs.Common.{◌≡◌, ◌+◌, ◌<◌, ◌≤◌, true, false, [], ◌∷◌, ◌++◌, length, take, set, is_some, sym, ap, ◌∙◌, arith, rules}
+use Rattle.std.proofs.Common.{◌≡◌, ◌<◌, ◌≤◌, true, false, [], ◌∷◌, ◌++◌, length, take, set, is_some, sym, ap, ◌∙◌, arith, rules}
 use Rattle.seeker.specs.Sought.{candidates, with_split}
 use Rattle.seeker.specs.Steps.{bare, placed}
 use Rattle.seeker.proofs.Tries.{nth_here, this_passes, this_fails, none_left}

@@ -1,4 +1,4 @@
-use Rattle.std.proofs.Common.{◌≡◌, ◌≤◌, map, length, take}
+use Rattle.std.proofs.Common.{◌≡◌, ◌≤◌, map, take}
 use Rattle.model.specs.Round.{round}
 use Rattle.loads.proofs.table.TableLoad.round.Given as goal
 

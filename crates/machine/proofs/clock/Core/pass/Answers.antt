@@ -1,5 +1,4 @@
 use Rattle.std.proofs.Common.{◌+◌, ap}
-use Rattle.model.specs.Machine as model
 use Rattle.machine.specs.Events.{released}
 use Rattle.machine.specs.Views.{task_of, progress_of}
 use Rattle.machine.specs.Calls.{state_of}

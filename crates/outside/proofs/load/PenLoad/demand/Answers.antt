@@ -1,4 +1,4 @@
-use Rattle.std.proofs.Common.{arith, rules}
+use Rattle.std.proofs.Common.{rules}
 use Rattle.outside.proofs.Found.{clock_told, stroke_told, nothing_told, far_told}
 use Rattle.outside.proofs.load.PenLoad.demand.Goals as goal
 

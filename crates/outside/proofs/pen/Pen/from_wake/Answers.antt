@@ -1,4 +1,4 @@
-use Rattle.std.proofs.Common.{◌≡◌, ◌+◌, ◌*◌, ◌/◌, ◌≤◌, min, ap, ◌∙◌, div-le_self, arith}
+use Rattle.std.proofs.Common.{◌≡◌, ◌+◌, ◌*◌, ◌/◌, ◌≤◌, min, ap, ◌∙◌, arith}
 use Rattle.std.proofs.lemmas.Nat.{mul-le, div_below}
 use Rattle.model.specs.Demand.{from_wake}
 use Rattle.outside.proofs.pen.Pen.from_wake.Goals as goal

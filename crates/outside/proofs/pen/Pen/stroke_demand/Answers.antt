@@ -1,4 +1,4 @@
-use Rattle.std.proofs.Common.{◌≡◌, refl, arith}
+use Rattle.std.proofs.Common.{refl, arith}
 use Rattle.model.specs.Demand.{demand}
 use Rattle.model.proofs.Demand.Windows.{piece_first}
 use Rattle.model.specs.Rows.{piece}

@@ -1,4 +1,4 @@
-use Rattle.std.proofs.Common.{sym, ◌∙◌}
+use Rattle.std.proofs.Common.{sym}
 use Rattle.model.proofs.Rules.Keeps.{bounded_is_least}
 use Rattle.rows.proofs.bare.BoundedRowBare.kept.Goals as goal
 

@@ -1,4 +1,4 @@
-use Rattle.std.proofs.Common.{sym, ◌∙◌}
+use Rattle.std.proofs.Common.{sym}
 use Rattle.model.proofs.Rules.Keeps.{plain_is_least}
 use Rattle.rows.proofs.bare.PlainRowBare.kept.Goals as goal
 
