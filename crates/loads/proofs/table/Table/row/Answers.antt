@@ -7,10 +7,7 @@ use Rattle.loads.proofs.table.Table.row.Goals.{else-task-lt32-via-then-task-lt32
 
 pub returns-then-task-self : goal.returns-then-task-self
 returns-then-task-self g c =
-    let rows = c.args.self.now.rows.now in
-    let means = found_row g.R.Bare.task rows c.args.task _ (omega arith) (omega arith) c.index-self-task.is in
-    let named = name_row g.R.Bare.task g.R.Kind.title rows c.args.task _ (omega arith) (omega arith) c.index-self-task.is in
-    record { means = search rules; named = search rules }
+    record { means = search (rules, found_row); named = search (rules, name_row) }
 
 pub returns : goal.returns
 returns g c =
