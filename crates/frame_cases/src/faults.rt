@@ -275,6 +275,7 @@ fn refused_with(
     layer: Layer,
     note: &str,
 ) -> Result<(), Fail> {
+    assert!(rt; answer.is_err(), "accepted: {note}");
     match answer {
         Ok(_) => Err(Fail::new("accepted")),
         Err(fault) => {

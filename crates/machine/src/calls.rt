@@ -120,7 +120,7 @@ impl Core {
 
     /// The instant grows by 1.
     fn pass(&mut self)
-        requires { self.now.now < 1000000000000000 }
+        requires { self.old.now < 1000000000000000 }
         ensures state { state_of self.new ≡ later (state_of self.old) }
         ensures tasks { tasks_of self.new ≡ tasks_of self.old }
     {
