@@ -1,5 +1,5 @@
 #!/usr/bin/env bash
-# Tries the two mistakes that must not build. In a scratch copy of the crates below the check,
+# Tries the two mistakes that must not build. In a scratch copy of the check and the crates below it,
 # each wrong.txt must be refused with the error of its error.txt, and each right.txt must be proved.
 set -euo pipefail
 top="$(cd "$(dirname "${BASH_SOURCE[0]}")/../.." && pwd)"

@@ -275,9 +275,8 @@ fn refused_with(
     layer: Layer,
     note: &str,
 ) -> Result<(), Fail> {
-    assert!(rt; answer.is_err(), "accepted: {note}");
     match answer {
-        Ok(_) => Err(Fail::new("accepted")),
+        Ok(_) => panic!(rt; "accepted: {note}"),
         Err(fault) => {
             assert_eq!(rt; fault.number(), number, "{note}");
             assert_eq!(rt; fault.line, line, "{note}");
