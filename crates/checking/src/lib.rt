@@ -18,9 +18,8 @@ pub fn check<L: Load>(load: &L) -> Result<(), Refusal>
     if count > 32 {
         return Err(Refusal::TooManyTasks);
     }
-    let Some(round) = load.round() else {
-        return Err(Refusal::NoRound);
-    };
+    let round = load.round().ok_or(Refusal::NoRound)?;
+    // A loop that breaks with its value: a form that the project asks for.
     let mut length = 1;
     let exceeded = 'lengths: loop {
         if length >= 2 * round {

@@ -39,6 +39,7 @@ const OPEN_LINE: &str = "0202000A000100080001\n";
 const BOUNDED_LINE: &str = "0303001E00040007000900080008\n";
 
 /// A line that is refused, without its end, with the refusal's number and layer.
+// By number: the table of numbers is tested too.
 struct Case {
     line: &'static str,
     number: u8,
@@ -243,15 +244,6 @@ const CASES: [Case; 39] = [
     },
 ];
 
-fn depth(layer: Layer) -> u8 {
-    match layer {
-        Layer::Text => 0,
-        Layer::Frame => 1,
-        Layer::Row => 2,
-        Layer::Table => 3,
-    }
-}
-
 fn read(text: &[u8]) -> Result<Counts, Fault> {
     read_text(text, &mut [PLAIN; 33], &mut [OPEN; 33], &mut [BOUNDED; 33])
 }
@@ -280,7 +272,7 @@ fn refused_with(
         Err(fault) => {
             assert_eq!(rt; fault.number(), number, "{note}");
             assert_eq!(rt; fault.line, line, "{note}");
-            assert_eq!(rt; depth(fault.layer), depth(layer), "{note}");
+            assert_eq!(rt; fault.layer, layer, "{note}");
             Ok(())
         }
     }
@@ -359,23 +351,43 @@ fn rows_before_a_fault_stay(rt: HostRuntime) -> Result<(), Fail> {
         3,
         Layer::Frame,
     )?;
-    let first = plains[0];
-    assert!(rt; first.name == 1 && first.spacing == 5 && first.due == 5 && first.cost == 1);
-    let second = opens[0];
-    assert!(rt; second.name == 2 && second.spacing == 10 && second.first == 1);
-    assert!(rt; second.wait == 8 && second.second == 1);
-    assert!(rt; plains[1].name == 9 && opens[1].name == 9 && boundeds[0].name == 9);
+    let first = PlainRow {
+        name: 1,
+        spacing: 5,
+        due: 5,
+        cost: 1,
+    };
+    let second = OpenRow {
+        name: 2,
+        spacing: 10,
+        first: 1,
+        wait: 8,
+        second: 1,
+    };
+    assert_eq!(rt; plains, [first, PLAIN]);
+    assert_eq!(rt; opens, [second, OPEN]);
+    assert_eq!(rt; boundeds, [BOUNDED]);
     Ok(())
 }
 
 #[test]
 fn texts_are_accepted(rt: HostRuntime) -> Result<(), Fail> {
     let none = read(b"").ok().ok_or("refused")?;
-    assert!(rt; none.plains == 0 && none.opens == 0 && none.boundeds == 0);
+    let zeros = Counts {
+        plains: 0,
+        opens: 0,
+        boundeds: 0,
+    };
+    assert_eq!(rt; none, zeros);
     let three = read(
         b"03FF271003E807D00BB80FA003E8\n0202000A000100080001\n0303001E0004000700090008000A\n",
     ).ok()
         .ok_or("refused")?;
-    assert!(rt; three.plains == 0 && three.opens == 1 && three.boundeds == 2);
+    let counts = Counts {
+        plains: 0,
+        opens: 1,
+        boundeds: 2,
+    };
+    assert_eq!(rt; three, counts);
     Ok(())
 }

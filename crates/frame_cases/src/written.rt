@@ -14,10 +14,7 @@ fn is(rt: &impl Abort, line: Line, text: &str) -> Result<(), Fail> {
 }
 
 fn wrote(rt: &impl Abort, line: Option<Line>, text: &str) -> Result<(), Fail> {
-    match line {
-        Some(line) => is(rt, line, text),
-        None => Err(Fail::new("not written")),
-    }
+    is(rt, line.ok_or("not written")?, text)
 }
 
 #[test]

@@ -41,7 +41,7 @@ together (b ∷ []) e = go (eqb b 10) refl
   where
     go : (t : Bool) → eqb b 10 ≡ t → unlines (lines (b ∷ [])) ≡ b ∷ []
     go true p = ap (λ (t : Bool). unlines (cond t ([] ∷ []) ((b ∷ []) ∷ []))) p ∙ ap (λ (x : ℕ). x ∷ []) (sym (eqb-true b 10 p))
-    go false p = let z : ◌≡◌ {A = Bool} true false = sym e ∙ p in let y : ◌≡◌ {A = ℕ} 0 1 = cc in absurd (omega arith)
+    go false p = let z : ◌≡◌ {A = Bool} true false = sym e ∙ p in cc
 together (b ∷ c ∷ text) e = go (eqb b 10) refl (together (c ∷ text) e)
   where
     go : (t : Bool) → eqb b 10 ≡ t → unlines (lines (c ∷ text)) ≡ c ∷ text → unlines (lines (b ∷ c ∷ text)) ≡ b ∷ c ∷ text
@@ -114,7 +114,7 @@ module _ (places : Counts) where
   fit_next done (Bounded r) rest f = omega (arith, bounded_long done (Bounded r ∷ rest))
 
   never : {A : Type 0} (done rows : List TextRow) (e : Fault) → stopped done e ≡ accepted rows → A
-  never done rows e p = let q : Some e ≡ None = ap (λ (o : Outcome). o.fault) p in let z : ◌≡◌ {A = ℕ} 0 1 = cc in absurd (omega arith)
+  never done rows e p = let q : Some e ≡ None = ap (λ (o : Outcome). o.fault) p in cc
 
   abbrev after_room : List TextRow → List (List ℕ) → TextRow → Result ℕ Fault → Outcome
   after_room done rest row x = go_on done x (λ _. reads places (done ++ row ∷ []) rest)
@@ -154,7 +154,7 @@ module _ (places : Counts) where
       let h = fit_next done row new f in
       let s : (done ++ row ∷ []) ++ new ≡ done ++ row ∷ new = append_assoc done (row ∷ []) new in
       ap (after_row done (map text_of new)) (written_read (length done + 1) row a.0)
-      ∙ ap (after_room done (map text_of new) row) (sym (room_left (length done + 1) (of_kind row places) (of_kind row (counts_of done)) (omega arith) (omega arith)))
+      ∙ ap (after_room done (map text_of new) row) (room_left (length done + 1) (of_kind row places) (of_kind row (counts_of done)) h)
       ∙ write_lines new (done ++ row ∷ []) a.1 (subst (λ (rs : List TextRow). Fit places rs) (sym s) f)
       ∙ ap accepted s
 

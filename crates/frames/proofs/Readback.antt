@@ -120,11 +120,11 @@ whole n h = omega arith
 -- steps that did not refuse
 then_ok : {X Y : Type 0} (r : Result X Fault) (f : X → Result Y Fault) (y : Y) → r then f ≡ Ok y → (x : X) × (r ≡ Ok x) × (f x ≡ Ok y)
 then_ok (Ok x) f y e = (x, refl, e)
-then_ok (Err x) f y e = let z : ◌≡◌ {A = ℕ} 0 1 = cc in absurd (omega arith)
+then_ok (Err x) f y e = cc
 
 kept_ok : {R : Type 0} (n : ℕ) (row r : R) (o : Option Refusal) → kept n row o ≡ Ok r → (o ≡ None) × (row ≡ r)
 kept_ok n row r None e = (refl, cc)
-kept_ok n row r (Some x) e = let z : ◌≡◌ {A = ℕ} 0 1 = cc in absurd (omega arith)
+kept_ok n row r (Some x) e = cc
 
 length_ok : (n count : ℕ) (frame : List ℕ) (u : Unit {0}) → length_test n count frame ≡ Ok u → length frame ≡ 2 + 2 * count
 unfolding length_test
@@ -138,7 +138,7 @@ body_ok count row breaks n frame r e =
     (length_ok n count frame t.0 t.1, ap breaks (sym k.1) ∙ k.0, k.1)
 
 tag_ok : (n : ℕ) (frame : List ℕ) (t : ℕ) → tag_of n frame ≡ Ok t → get_or frame 0 0 ≡ t
-tag_ok n [] t e = let z : ◌≡◌ {A = ℕ} 0 1 = cc in absurd (omega arith)
+tag_ok n [] t e = cc
 tag_ok n (b ∷ frame) t e = cc
 
 abbrev as_text : TextRow → Result TextRow Fault
@@ -204,7 +204,7 @@ module _ (n : ℕ) (frame : List ℕ) (a : AllByRecursion Byte frame) where
   chosen_means row t false false true s p q r e =
       let k = then_ok (body 6 bounded_row bounded_breaks n frame) (λ x. as_text (Bounded x)) row e in
       subst (λ (row : TextRow). Means row frame) (same_row _ row k.2) (bounded_means_frame k.0 (s ∙ eqb-true t 3 r) k.1)
-  chosen_means row t false false false s p q r e = let z : ◌≡◌ {A = ℕ} 0 1 = cc in absurd (omega arith)
+  chosen_means row t false false false s p q r e = cc
 
   by_tag_means : (row : TextRow) (t : ℕ) → get_or frame 0 0 ≡ t → by_tag n frame t ≡ Ok row → Means row frame
   by_tag_means row t s e = chosen_means row t (eqb t 1) (eqb t 2) (eqb t 3) s refl refl refl e

@@ -1,6 +1,5 @@
 -- Rows put into one table.
 use Rattle.std.proofs.Common.{◌≡◌, ℕ, ◌+◌, ◌<◌, ◌≤◌, min, Bool, true, false, ltb, ◌⊎◌, List, [], ◌∷◌, ◌++◌, length, get_or, drop, set, Ok, Err, Result, sym, refl, ap, ◌∙◌, inl, inr, arith, ltb-false, ltb-true, le-ltb, lt-ltb}
-use Rattle.std.proofs.lemmas.Bool.{cases_lt}
 use Rattle.std.proofs.lemmas.List.{append_assoc, drop_more, set_at, length_push, length-set}
 use Rattle.std.proofs.lemmas.Bool.Decides.{nat_tests}
 use Rattle.model.specs.declared.refusal.Refusal.TheVariants.{TooManyRows}
@@ -17,29 +16,26 @@ abbrev pub full : ℕ → Result ℕ Fault
 full n = Err (fault_at TooManyRows n Table)
 
 module _ (n places count : ℕ) where
-  pub room_full : (32 ≤ count) ⊎ (places ≤ count) → full n ≡ room n places count
+  room_full : min 32 places ≤ count → room n places count ≡ full n
   unfolding room
-  room_full h = let b : ltb count (min 32 places) ≡ false = le-ltb _ _ (omega arith) in rw b refl
+  room_full h = rw (le-ltb _ _ h) refl
 
-  pub room_left : count < 32 → count < places → next_count (count + 1) ≡ room n places count
+  pub room_left : count < min 32 places → room n places count ≡ next_count (count + 1)
   unfolding room
-  room_left h k = let b : ltb count (min 32 places) ≡ true = lt-ltb _ _ (omega arith) in rw b refl
+  room_left h = rw (lt-ltb _ _ h) refl
 
   pub room_ok : (k : ℕ) → room n places count ≡ Ok k → count < min 32 places
   unfolding room
   room_ok k e = grind (arith, nat_tests)
 
 module _ {R : Type 0} (table : List R) (count : ℕ) (row : R) where
-  pub stored_full : (32 ≤ count) ⊎ (length table ≤ count) → table ≡ stored table count row
+  stored_full : min 32 (length table) ≤ count → stored table count row ≡ table
   unfolding stored
-  stored_full h = let b : ltb count (min 32 (length table)) ≡ false = le-ltb _ _ (omega arith) in rw b refl
+  stored_full h = rw (le-ltb _ _ h) refl
 
-  pub stored_left : count < 32 → count < length table → set table count row ≡ stored table count row
+  stored_left : count < min 32 (length table) → stored table count row ≡ set table count row
   unfolding stored
-  stored_left h k = let b : ltb count (min 32 (length table)) ≡ true = lt-ltb _ _ (omega arith) in rw b refl
-
-crowded : {count places : ℕ} → min 32 places ≤ count → (32 ≤ count) ⊎ (places ≤ count)
-crowded {count} {places} h = elim (cases_lt count 32) [ inl a ↦ inr (omega arith) | inr b ↦ inl b ]
+  stored_left h = rw (lt-ltb _ _ h) refl
 
 -- some rows fill the first places of a table, whose content before is kept behind them
 pub record Filling {R : Type 0} (rows before table : List R) (count : ℕ) : Type 0 where
@@ -69,19 +65,19 @@ pub more_or_not : {R : Type 0} (rows before table : List R) (count n : ℕ) (row
 more_or_not {R} rows before table count n row f = go (ltb count (min 32 (length table))) refl
   where
     go : (b : Bool) → ltb count (min 32 (length table)) ≡ b → More rows before table count n row ⊎ NoMore rows before table count n row
-    go true e = inl (record {
-      fits = sym (room_left n (length before) (length rows) (omega (arith, f.counted, f.long, ltb-true _ _ e)) (omega (arith, f.counted, f.long, ltb-true _ _ e)));
-      roomy = sym (room_left n (length table) count (omega (arith, ltb-true _ _ e)) (omega (arith, ltb-true _ _ e)));
-      after = record {
-        same = sym (stored_left table count row (omega (arith, ltb-true _ _ e)) (omega (arith, ltb-true _ _ e)))
-            ∙ (λ i. set (f.same i) (f.counted i) row)
-            ∙ filled_push rows before row (omega (arith, f.counted, f.long, ltb-true _ _ e));
-        long = ap length (sym (stored_left table count row (omega (arith, ltb-true _ _ e)) (omega (arith, ltb-true _ _ e)))) ∙ length-set table count row ∙ f.long;
-        counted = ap (λ k. k + 1) f.counted ∙ sym (length_push rows row);
-      };
-    })
-    go false e = inr (record {
-      fits = sym (room_full n (length before) (length rows) (crowded (omega (arith, f.counted, f.long, ltb-false _ _ e))));
-      roomy = sym (room_full n (length table) count (crowded (omega (arith, ltb-false _ _ e))));
-      after = sym (stored_full table count row (crowded (omega (arith, ltb-false _ _ e))));
-    })
+    go true e =
+        let left = ltb-true _ _ e in inl (record {
+          fits = room_left n (length before) (length rows) (omega (arith, f.counted, f.long));
+          roomy = room_left n (length table) count left;
+          after = record {
+            same = stored_left table count row left ∙ (λ i. set (f.same i) (f.counted i) row) ∙ filled_push rows before row (omega (arith, f.counted, f.long));
+            long = ap length (stored_left table count row left) ∙ length-set table count row ∙ f.long;
+            counted = ap (λ k. k + 1) f.counted ∙ sym (length_push rows row);
+          };
+        })
+    go false e =
+        let none = ltb-false _ _ e in inr (record {
+          fits = room_full n (length before) (length rows) (omega (arith, f.counted, f.long));
+          roomy = room_full n (length table) count none;
+          after = stored_full table count row none;
+        })

@@ -1,29 +1,16 @@
--- The rule of a table, shown at all of its entries by one computed test, one entry after the other.
-use Rattle.std.proofs.Common.{ℕ, zero, suc, ◌+◌, ◌<◌, Bool, true, false, T, List, [], ◌∷◌, length, get_or, sym, ◌∙◌, subst, le_of_suc-le-suc, not-suc-le-zero, add-zero, add-suc, suc-add, zero-add}
+-- The rule of a table, shown at all of its entries by one computed test.
+use Rattle.std.proofs.Common.{◌≡◌, ℕ, ◌<◌, Bool, true, false, List, length, get_or, refl, ap, ◌∙◌, zero-add, arith}
+use Rattle.std.specs.List.{list_all, enumerate_from}
+use Rattle.std.proofs.lemmas.List.Folds.{list_all_at}
+use Rattle.std.proofs.lemmas.List.FromFn.{length-enumerate_from, get_or-enumerate_from}
 
-abbrev pub both : Bool → Bool → Bool
-both true b = b
-both false b = false
-
-both_left : (a b : Bool) → T (both a b) → T a
-both_left true b t = tt
-both_left false b t = t
-
-both_right : (a b : Bool) → T (both a b) → T b
-both_right true b t = t
-both_right false b t = absurd t
-
--- the test f passes at each entry of the list and its place, counted from i
-abbrev pub every : (ℕ → ℕ → Bool) → ℕ → List ℕ → Bool
-every f i [] = true
-every f i (x ∷ xs) = both (f i x) (every f (suc i) xs)
-
-from : (f : ℕ → ℕ → Bool) (xs : List ℕ) (i : ℕ) → T (every f i xs) → (k : ℕ) → k < length xs → T (f (i + k) (get_or xs k 0))
-from f [] i t k h = absurd (not-suc-le-zero h)
-from f (x ∷ xs) i t zero h = subst (λ (m : ℕ). T (f m x)) (sym (add-zero i)) (both_left (f i x) (every f (suc i) xs) t)
-from f (x ∷ xs) i t (suc k) h =
-    subst (λ (m : ℕ). T (f m (get_or xs k 0))) (suc-add i k ∙ sym (add-suc i k))
-    (from f xs (suc i) (both_right (f i x) (every f (suc i) xs) t) k (le_of_suc-le-suc h))
-
-pub at : (f : ℕ → ℕ → Bool) (xs : List ℕ) → T (every f 0 xs) → (k : ℕ) → k < length xs → T (f k (get_or xs k 0))
-at f xs t k h = subst (λ (m : ℕ). T (f m (get_or xs k 0))) (zero-add k) (from f xs 0 t k h)
+-- the test f passes at each place of the list and its entry
+pub at : (f : ℕ × ℕ → Bool) (xs : List ℕ) → list_all f (enumerate_from 0 xs) ≡ true → (k : ℕ) → k < length xs → f (k, get_or xs k 0) ≡ true
+at f xs t k h = go (f (k, get_or xs k 0)) refl
+  where
+    go : (b : Bool) → f (k, get_or xs k 0) ≡ b → f (k, get_or xs k 0) ≡ true
+    go true e = e
+    go false e =
+        let entry = ap f (get_or-enumerate_from 0 xs k (0, 0) h) ∙ ap (λ (j : ℕ). f (j, get_or xs k 0)) (zero-add k) ∙ e in
+        let fails = list_all_at f (enumerate_from 0 xs) k (0, 0) (omega (arith, length-enumerate_from 0 xs)) entry in
+        cc

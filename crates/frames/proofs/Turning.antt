@@ -1,5 +1,5 @@
 -- One line more: the tables, their counts and the rows that were read.
-use Rattle.std.proofs.Common.{◌≡◌, ℕ, ◌+◌, List, [], ◌∷◌, ◌++◌, length, Ok, Err, Result, sym, refl, ap, ◌∙◌, subst, inl, inr, arith}
+use Rattle.std.proofs.Common.{◌≡◌, ℕ, ◌+◌, List, [], ◌∷◌, ◌++◌, length, Ok, Err, Result, sym, refl, ap, ◌∙◌, subst, inl, inr}
 use Rattle.std.proofs.lemmas.List.{append-nil}
 use Rattle.rows.specs.declared.bare.PlainRow.{PlainRow}
 use Rattle.rows.specs.declared.bare.OpenRow.{OpenRow}
@@ -43,7 +43,7 @@ abbrev pub told : Counts → Result Counts Fault
 told c = Ok c
 
 never : {A : Type 0} {c : Counts} {e : Fault} → told c ≡ Err e → A
-never {A} {c} {e} p = let z : ◌≡◌ {A = ℕ} 0 1 = cc in absurd (omega arith)
+never {A} {c} {e} p = cc
 
 abbrev refused : Fault → Result Counts Fault
 refused e = Err e
@@ -71,19 +71,17 @@ module _ (p0 : List PlainRow) (o0 : List OpenRow) (b0 : List BoundedRow) where
         ap (λ x. go_on done x (λ row. go_on done (room (length done + 1) (of_kind row (places_of p0 o0 b0)) (of_kind row (counts_of done))) (λ _. reads (places_of p0 o0 b0) (done ++ row ∷ []) rest))) e
         ∙ ap (λ x. go_on done x (λ _. reads (places_of p0 o0 b0) (done ++ row ∷ []) rest)) r
 
-    reads_fault : (f : Fault) → row_of (length done + 1) t ≡ Err f → reads (places_of p0 o0 b0) done (t ∷ rest) ≡ stopped done f
+    pub reads_fault : (f : Fault) → row_of (length done + 1) t ≡ Err f → reads (places_of p0 o0 b0) done (t ∷ rest) ≡ stopped done f
     reads_fault f e =
         ap (λ x. go_on done x (λ row. go_on done (room (length done + 1) (of_kind row (places_of p0 o0 b0)) (of_kind row (counts_of done))) (λ _. reads (places_of p0 o0 b0) (done ++ row ∷ []) rest))) e
 
     module _ (c : Counts) (p : List PlainRow) (o : List OpenRow) (b : List BoundedRow) (h : Held done c p o b) where
-      -- a line that was stored
-      pub turn : (c' : Counts) (x : Result TextRow Fault) → row_of (length done + 1) t ≡ x → counts_after (length done + 1) x p o b c ≡ Ok c' → (row : TextRow) × (Held (done ++ row ∷ []) c' (plain_after x c p) (open_after x c o) (bounded_after x c b)) × (reads (places_of p0 o0 b0) done (t ∷ rest) ≡ reads (places_of p0 o0 b0) (done ++ row ∷ []) rest)
-      turn c' (Err e) q a = never (sym a)
-      turn c' (Ok (Plain row)) q a = elim (more_or_not (plain_rows done) p0 p c.plains (length done + 1) row h.plains) [
+      -- a line whose row was stored
+      pub turn : (c' : Counts) (row : TextRow) → row_of (length done + 1) t ≡ Ok row → counts_after (length done + 1) row p o b c ≡ Ok c' → (Held (done ++ row ∷ []) c' (plain_after row c p) (open_after row c o) (bounded_after row c b)) × (reads (places_of p0 o0 b0) done (t ∷ rest) ≡ reads (places_of p0 o0 b0) (done ++ row ∷ []) rest)
+      turn c' (Plain row) q a = elim (more_or_not (plain_rows done) p0 p c.plains (length done + 1) row h.plains) [
         | inl m ↦
             let e : told (record { plains = c.plains + 1; opens = c.opens; boundeds = c.boundeds }) ≡ Ok c' = ap (λ k. k then (λ k. told (record { plains = k; opens = c.opens; boundeds = c.boundeds }))) (sym m.roomy) ∙ a in
             let s : record { plains = c.plains + 1; opens = c.opens; boundeds = c.boundeds } ≡ c' = cc in (
-              Plain row,
               subst (λ (c' : Counts). Held (done ++ Plain row ∷ []) c' (stored p c.plains row) o b) s (record {
                 plains = same_kind (plain_append done (Plain row ∷ [])) m.after;
                 opens = other (open_append done (Plain row ∷ [])) h.opens;
@@ -93,11 +91,10 @@ module _ (p0 : List PlainRow) (o0 : List OpenRow) (b0 : List BoundedRow) where
             )
         | inr m ↦ never (sym a ∙ ap (λ k. k then (λ k. told (record { plains = k; opens = c.opens; boundeds = c.boundeds }))) m.roomy)
       ]
-      turn c' (Ok (Open row)) q a = elim (more_or_not (open_rows done) o0 o c.opens (length done + 1) row h.opens) [
+      turn c' (Open row) q a = elim (more_or_not (open_rows done) o0 o c.opens (length done + 1) row h.opens) [
         | inl m ↦
             let e : told (record { plains = c.plains; opens = c.opens + 1; boundeds = c.boundeds }) ≡ Ok c' = ap (λ k. k then (λ k. told (record { plains = c.plains; opens = k; boundeds = c.boundeds }))) (sym m.roomy) ∙ a in
             let s : record { plains = c.plains; opens = c.opens + 1; boundeds = c.boundeds } ≡ c' = cc in (
-              Open row,
               subst (λ (c' : Counts). Held (done ++ Open row ∷ []) c' p (stored o c.opens row) b) s (record {
                 plains = other (plain_append done (Open row ∷ [])) h.plains;
                 opens = same_kind (open_append done (Open row ∷ [])) m.after;
@@ -107,11 +104,10 @@ module _ (p0 : List PlainRow) (o0 : List OpenRow) (b0 : List BoundedRow) where
             )
         | inr m ↦ never (sym a ∙ ap (λ k. k then (λ k. told (record { plains = c.plains; opens = k; boundeds = c.boundeds }))) m.roomy)
       ]
-      turn c' (Ok (Bounded row)) q a = elim (more_or_not (bounded_rows done) b0 b c.boundeds (length done + 1) row h.boundeds) [
+      turn c' (Bounded row) q a = elim (more_or_not (bounded_rows done) b0 b c.boundeds (length done + 1) row h.boundeds) [
         | inl m ↦
             let e : told (record { plains = c.plains; opens = c.opens; boundeds = c.boundeds + 1 }) ≡ Ok c' = ap (λ k. k then (λ k. told (record { plains = c.plains; opens = c.opens; boundeds = k }))) (sym m.roomy) ∙ a in
             let s : record { plains = c.plains; opens = c.opens; boundeds = c.boundeds + 1 } ≡ c' = cc in (
-              Bounded row,
               subst (λ (c' : Counts). Held (done ++ Bounded row ∷ []) c' p o (stored b c.boundeds row)) s (record {
                 plains = other (plain_append done (Bounded row ∷ [])) h.plains;
                 opens = other (open_append done (Bounded row ∷ [])) h.opens;
@@ -122,24 +118,23 @@ module _ (p0 : List PlainRow) (o0 : List OpenRow) (b0 : List BoundedRow) where
         | inr m ↦ never (sym a ∙ ap (λ k. k then (λ k. told (record { plains = c.plains; opens = c.opens; boundeds = k }))) m.roomy)
       ]
 
-      -- a line that was refused
-      pub turn_fault : (f : Fault) (x : Result TextRow Fault) → row_of (length done + 1) t ≡ x → counts_after (length done + 1) x p o b c ≡ Err f → (Held done c (plain_after x c p) (open_after x c o) (bounded_after x c b)) × (reads (places_of p0 o0 b0) done (t ∷ rest) ≡ stopped done f)
-      turn_fault f (Err e) q a = (h, reads_fault e q ∙ ap (stopped done) (fault_same e f a))
-      turn_fault f (Ok (Plain row)) q a = elim (more_or_not (plain_rows done) p0 p c.plains (length done + 1) row h.plains) [
+      -- a line whose row had no room
+      pub turn_fault : (f : Fault) (row : TextRow) → row_of (length done + 1) t ≡ Ok row → counts_after (length done + 1) row p o b c ≡ Err f → (Held done c (plain_after row c p) (open_after row c o) (bounded_after row c b)) × (reads (places_of p0 o0 b0) done (t ∷ rest) ≡ stopped done f)
+      turn_fault f (Plain row) q a = elim (more_or_not (plain_rows done) p0 p c.plains (length done + 1) row h.plains) [
         | inl m ↦ never (ap (λ k. k then (λ k. told (record { plains = k; opens = c.opens; boundeds = c.boundeds }))) (sym m.roomy) ∙ a)
         | inr m ↦ (
           subst (λ (l : List PlainRow). Held done c l o b) (sym m.after) h,
           reads_full (Plain row) _ q m.fits ∙ ap (stopped done) (fault_same _ f (ap (λ k. k then (λ k. told (record { plains = k; opens = c.opens; boundeds = c.boundeds }))) (sym m.roomy) ∙ a)),
         )
       ]
-      turn_fault f (Ok (Open row)) q a = elim (more_or_not (open_rows done) o0 o c.opens (length done + 1) row h.opens) [
+      turn_fault f (Open row) q a = elim (more_or_not (open_rows done) o0 o c.opens (length done + 1) row h.opens) [
         | inl m ↦ never (ap (λ k. k then (λ k. told (record { plains = c.plains; opens = k; boundeds = c.boundeds }))) (sym m.roomy) ∙ a)
         | inr m ↦ (
           subst (λ (l : List OpenRow). Held done c p l b) (sym m.after) h,
           reads_full (Open row) _ q m.fits ∙ ap (stopped done) (fault_same _ f (ap (λ k. k then (λ k. told (record { plains = c.plains; opens = k; boundeds = c.boundeds }))) (sym m.roomy) ∙ a)),
         )
       ]
-      turn_fault f (Ok (Bounded row)) q a = elim (more_or_not (bounded_rows done) b0 b c.boundeds (length done + 1) row h.boundeds) [
+      turn_fault f (Bounded row) q a = elim (more_or_not (bounded_rows done) b0 b c.boundeds (length done + 1) row h.boundeds) [
         | inl m ↦ never (ap (λ k. k then (λ k. told (record { plains = c.plains; opens = c.opens; boundeds = k }))) (sym m.roomy) ∙ a)
         | inr m ↦ (
           subst (λ (l : List BoundedRow). Held done c p o l) (sym m.after) h,

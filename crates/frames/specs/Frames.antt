@@ -39,6 +39,10 @@ settled_numbers r = r.spacing ∷ r.first ∷ r.wait ∷ r.second ∷ r.split �
 abbrev pub fault_at : Refusal → ℕ → Layer → Fault
 fault_at e n y = record { refusal = e; line = n; layer = y }
 
+-- what the layer of frames refuses
+abbrev pub frame_fault : Refusal → ℕ → Fault
+frame_fault e n = fault_at e n Frame
+
 -- field k of a frame, counted from 0; 0 past the frame's end
 abbrev pub field : List ℕ → ℕ → ℕ
 field frame k = 256 * slice_index frame (2 * k + 2) + slice_index frame (2 * k + 3)
@@ -74,12 +78,13 @@ kept n row (Some e) = Err (fault_at e n Row)
 unfoldable pub body : {R : Type 0} → ℕ → (ℕ → List ℕ → R) → (R → Option Refusal) → ℕ → List ℕ → Result R Fault
 body count row breaks n frame = length_test n count frame then (λ _. kept n (row (slice_index frame 1) (fields frame)) (breaks (row (slice_index frame 1) (fields frame))))
 
--- the text of line n, read as a kind of row that has some tag
+-- a frame in line n, read as a kind of row that has some tag and some count of fields
+abbrev pub tagged_body : {R : Type 0} → ℕ → ℕ → (ℕ → List ℕ → R) → (R → Option Refusal) → ℕ → List ℕ → Result R Fault
+tagged_body tag count row breaks n frame = tag_of n frame then (λ t. cond (t == tag) (body count row breaks n frame) (Err (fault_at UnknownTag n Frame)))
+
+-- the text of line n, read as a kind of row that has some tag and some count of fields
 abbrev pub framed : {R : Type 0} → ℕ → ℕ → (ℕ → List ℕ → R) → (R → Option Refusal) → ℕ → List ℕ → Result R Fault
-framed tag count row breaks n text =
-    digits_test n text then (λ _.
-    tag_of n (bytes text) then (λ t.
-    cond (t == tag) (body count row breaks n (bytes text)) (Err (fault_at UnknownTag n Frame))))
+framed tag count row breaks n text = digits_test n text then (λ _. tagged_body tag count row breaks n (bytes text))
 
 -- Numbers as fields: two bytes each, the high byte first.
 abbrev pub in_bytes : List ℕ → List ℕ

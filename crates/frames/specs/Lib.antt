@@ -1,4 +1,5 @@
 pub mod Hex
+pub mod Layers
 pub mod Frames
 pub mod Rows
 pub mod Texts

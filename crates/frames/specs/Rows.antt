@@ -17,6 +17,10 @@ by_tag n frame tag =
     (cond (tag == 3) (body 6 bounded_row bounded_breaks n frame then (λ row. Ok (Bounded row)))
     (Err (fault_at UnknownTag n Frame))))
 
+-- the row of a frame in line n, its tag read first
+abbrev pub any_body : ℕ → List ℕ → Result TextRow Fault
+any_body n frame = tag_of n frame then (λ tag. by_tag n frame tag)
+
 -- the row of the text of line n
 abbrev pub row_of : ℕ → List ℕ → Result TextRow Fault
-row_of n text = digits_test n text then (λ _. tag_of n (bytes text) then (λ tag. by_tag n (bytes text) tag))
+row_of n text = digits_test n text then (λ _. any_body n (bytes text))

@@ -1,8 +1,9 @@
 //! Hexadecimal digits.
 ghost use Rattle.std.specs.Prelude.{◌≡◌};
-ghost use Rattle.frames.specs.Hex.{worth};
+ghost use Rattle.frames.specs.Hex.{worth, valued};
 
 /// The value of each byte as a digit: 0 to 9 and A to F; 255 for a byte that is no digit.
+// A table of 256 entries and not a match: a form that the project asks for.
 const VALUES: [u8; 256] = [
     255, 255, 255, 255, 255, 255, 255, 255, 255, 255, 255, 255, 255, 255, 255, 255, 255, 255, 255,
     255, 255, 255, 255, 255, 255, 255, 255, 255, 255, 255, 255, 255, 255, 255, 255, 255, 255, 255,
@@ -21,8 +22,16 @@ const VALUES: [u8; 256] = [
 ];
 
 /// The value of a digit; 255 for a byte that is no digit.
-pub fn value_of(byte: u8) -> u8
+fn value_of(byte: u8) -> u8
     ensures { result ≡ worth byte }
 {
     VALUES[byte as usize]
+}
+
+/// The value of a digit; none for a byte that is no digit.
+pub fn digit_value(byte: u8) -> Option<u8>
+    ensures { result ≡ valued byte }
+{
+    let value = value_of(byte);
+    (value < 16).then_some(value)
 }

@@ -1,164 +1,166 @@
 //! One line read as a frame, and the frame as a row.
-ghost use Rattle.std.specs.Prelude.{◌≡◌, ◌+◌, ◌*◌, ◌<◌, true, length, slice_index};
-ghost use Rattle.frames.specs.Hex.{spells, bytes};
-ghost use Rattle.frames.specs.Frames.{field, fields, digits_test, tag_of, length_test, kept, body, framed};
-ghost use Rattle.frames.specs.Rows.{row_of};
+ghost use Rattle.std.specs.Prelude.{◌≡◌, ◌+◌, ◌*◌, ◌<◌, ◌≤◌, true, length, slice_index, MatchResult, Ok, Err};
+ghost use Rattle.frames.specs.Hex.{worth, spells, bytes};
+ghost use Rattle.frames.specs.Frames.{frame_fault, field, fields, digits_test, tag_of, length_test, body, tagged_body, framed};
+ghost use Rattle.frames.specs.Rows.{any_body, row_of};
 
-use crate::digits::value_of;
+use crate::digits::digit_value;
 use crate::fault::{Fault, Layer};
 use crate::kinds::{FrameKind, MOST_FIELDS};
 use model::refusal::Refusal;
 use rows::bare::{BoundedRow, OpenRow, PlainRow};
 use rows::kind::Kind;
+use std::array;
 
 /// A row of a kind that a text may hold.
-#[derive(Clone, Copy)]
+#[derive(Clone, Copy, Debug, PartialEq, Eq)]
 pub enum TextRow {
     Plain(PlainRow),
     Open(OpenRow),
     Bounded(BoundedRow),
 }
 
-/// Refuses a line that is not digits, two a byte.
-fn test_digits(line: u16, text: &[u8]) -> Result<(), Fault>
-    ensures { result ≡ digits_test line text.now }
+/// Whether a text is digits, two a byte.
+#[tactic(auto, unfolding(crate::specs::Hex::spells))]
+fn spells_bytes(text: &[u8]) -> bool
+    ensures { result ≡ spells text.now }
 {
-    let refused = Fault {
-        refusal: Refusal::BadDigit,
-        line,
-        layer: Layer::Text,
-    };
-    for byte in text {
-        if value_of(*byte) >= 16 {
-            return Err(refused);
+    text.len() % 2 == 0 && text.iter().all(|byte| digit_value(*byte).is_some())
+}
+
+/// A line whose digits spell a frame, two a byte.
+#[derive(Clone, Copy)]
+struct Frame<'a> {
+    digits: &'a [u8],
+    line: u16,
+    ghost spelled: { spells digits.now ≡ true },
+}
+
+impl<'a> Frame<'a> {
+    /// The frame of a line, which is refused where it is not digits, two a byte.
+    #[tactic(auto, unfolding(crate::specs::Frames::digits_test))]
+    fn of(line: u16, digits: &'a [u8]) -> Result<Frame<'a>, Fault>
+        ensures { MatchResult result (λ f. (digits_test line digits.now ≡ Ok tt) × (f.digits.now ≡ digits.now) × (f.line ≡ line)) (λ e. digits_test line digits.now ≡ Err e) }
+    {
+        if !spells_bytes(digits) {
+            return Err(Fault::new(Refusal::BadDigit, line, Layer::Text));
+        }
+        Ok(Frame { digits, line })
+    }
+
+    /// What the frame's own layer refuses in it.
+    fn refused(&self, refusal: Refusal) -> Fault
+        ensures { result ≡ frame_fault refusal self.now.line }
+    {
+        Fault::new(refusal, self.line, Layer::Frame)
+    }
+
+    /// The value of the digit at a place.
+    #[tactic(auto, using(crate::proofs::Spelling::digit_valued, crate::proofs::Spelling::spells_digits))]
+    fn digit(&self, place: usize) -> u8
+        requires { place < length self.now.digits.now }
+        ensures value { result ≡ worth (slice_index self.now.digits.now place) }
+        ensures small { result < 16 }
+    {
+        digit_value(self.digits[place]).unwrap()
+    }
+
+    /// A byte of the frame, 0 past its end.
+    #[tactic(auto, using(crate::proofs::Spelling::byte_is, crate::proofs::Spelling::length_bytes, std::proofs::lemmas::List::get_or_past))]
+    fn byte(&self, place: usize) -> u8
+        ensures { result ≡ slice_index (bytes self.now.digits.now) place }
+    {
+        if place >= self.digits.len() / 2 {
+            return 0;
+        }
+        16 * self.digit(2 * place) + self.digit(2 * place + 1)
+    }
+
+    fn field(&self, place: usize) -> u64
+        requires { place < 6 }
+        ensures { result ≡ field (bytes self.now.digits.now) place }
+    {
+        let bytes = [self.byte(2 * place + 2), self.byte(2 * place + 3)];
+        u64::from(u16::from_be_bytes(bytes))
+    }
+
+    fn fields(&self) -> [u64; MOST_FIELDS]
+        ensures { result ≡ fields (bytes self.now.digits.now) }
+    {
+        array::from_fn(|place| self.field(place))
+    }
+
+    /// The first byte of the frame.
+    #[tactic(auto, using(crate::proofs::Steps::tag_some, crate::proofs::Spelling::spells_even))]
+    fn tag(&self) -> Result<u8, Fault>
+        ensures { result ≡ tag_of self.now.line (bytes self.now.digits.now) }
+    {
+        if self.digits.is_empty() {
+            return Err(self.refused(Refusal::UnknownTag));
+        }
+        Ok(self.byte(0))
+    }
+
+    /// Refuses a frame that has not so many fields.
+    #[tactic(auto, using(crate::proofs::Spelling::length_bytes), unfolding(crate::specs::Frames::length_test))]
+    fn test_length(&self, count: usize) -> Result<(), Fault>
+        ensures { result ≡ length_test self.now.line count (bytes self.now.digits.now) }
+    {
+        let size = self.digits.len() / 2;
+        if size >= 2 && size % 2 == 0 && size / 2 - 1 == count {
+            Ok(())
+        } else {
+            Err(self.refused(Refusal::WrongLength))
         }
     }
-    if text.len() % 2 != 0 {
-        return Err(refused);
+
+    /// The row of the frame, whose tag is the kind's, if it keeps the rules of the kind.
+    #[tactic(auto, unfolding(crate::specs::Frames::body))]
+    fn body<K: FrameKind + Drop>(&self) -> Result<K, Fault>
+        ensures { result ≡ body K.Kind.FIELDS K.FrameKind.row K.Kind.fault self.now.line (bytes self.now.digits.now) }
+    {
+        self.test_length(K::FIELDS)?;
+        let row = K::of_fields(self.byte(1), self.fields());
+        // Not map_err: in a generic function its closure needs a contract, which is longer than the match.
+        match row.test() {
+            Ok(()) => Ok(row),
+            Err(refusal) => Err(Fault::new(refusal, self.line, Layer::Row)),
+        }
     }
-    Ok(())
-}
 
-/// A byte of the frame that digits spell, 0 past its end.
-fn byte_at(text: &[u8], place: usize) -> u8
-    requires { spells text.now ≡ true }
-    ensures { result ≡ slice_index (bytes text.now) place }
-{
-    if place >= text.len() / 2 {
-        return 0;
+    /// The row of the frame, as one of a kind.
+    fn row<K: FrameKind + Drop>(&self) -> Result<K, Fault>
+        ensures { result ≡ tagged_body K.Kind.TAG K.Kind.FIELDS K.FrameKind.row K.Kind.fault self.now.line (bytes self.now.digits.now) }
+    {
+        if self.tag()? != K::TAG {
+            return Err(self.refused(Refusal::UnknownTag));
+        }
+        self.body()
     }
-    16 * value_of(text[2 * place]) + value_of(text[2 * place + 1])
-}
 
-fn field_at(text: &[u8], place: usize) -> u64
-    requires spelled { spells text.now ≡ true }
-    requires few { place < 6 }
-    ensures { result ≡ field (bytes text.now) place }
-{
-    256 * byte_at(text, 2 * place + 2) as u64 + byte_at(text, 2 * place + 3) as u64
-}
-
-fn fields_at(text: &[u8]) -> [u64; MOST_FIELDS]
-    requires { spells text.now ≡ true }
-    ensures { result ≡ fields (bytes text.now) }
-{
-    [
-        field_at(text, 0),
-        field_at(text, 1),
-        field_at(text, 2),
-        field_at(text, 3),
-        field_at(text, 4),
-        field_at(text, 5),
-    ]
-}
-
-/// The tag of the frame that digits spell.
-fn tag_at(line: u16, text: &[u8]) -> Result<u8, Fault>
-    requires { spells text.now ≡ true }
-    ensures { result ≡ tag_of line (bytes text.now) }
-{
-    if text.len() == 0 {
-        return Err(Fault {
-            refusal: Refusal::UnknownTag,
-            line,
-            layer: Layer::Frame,
-        });
+    /// The row of the frame, of any kind that a text may hold.
+    fn text_row(&self) -> Result<TextRow, Fault>
+        ensures { result ≡ any_body self.now.line (bytes self.now.digits.now) }
+    {
+        match self.tag()? {
+            PlainRow::TAG => self.body().map(TextRow::Plain),
+            OpenRow::TAG => self.body().map(TextRow::Open),
+            BoundedRow::TAG => self.body().map(TextRow::Bounded),
+            _ => Err(self.refused(Refusal::UnknownTag)),
+        }
     }
-    Ok(byte_at(text, 0))
-}
-
-/// Refuses a frame that has not so many fields.
-fn test_length(line: u16, count: usize, text: &[u8]) -> Result<(), Fault>
-    requires { spells text.now ≡ true }
-    ensures { result ≡ length_test line count (bytes text.now) }
-{
-    let size = text.len() / 2;
-    if size >= 2 && size % 2 == 0 && size / 2 - 1 == count {
-        Ok(())
-    } else {
-        Err(Fault {
-            refusal: Refusal::WrongLength,
-            line,
-            layer: Layer::Frame,
-        })
-    }
-}
-
-/// The row, if it keeps the rules of its kind.
-fn keep<K: FrameKind + Drop>(line: u16, row: K) -> Result<K, Fault>
-    ensures { result ≡ kept line row (K.Kind.fault row) }
-{
-    match row.test() {
-        Ok(()) => Ok(row),
-        Err(refusal) => Err(Fault {
-            refusal,
-            line,
-            layer: Layer::Row,
-        }),
-    }
-}
-
-/// The row of the frame that digits spell, whose tag is the kind's.
-fn read_body<K: FrameKind + Drop>(line: u16, text: &[u8]) -> Result<K, Fault>
-    requires { spells text.now ≡ true }
-    ensures { result ≡ body K.Kind.fielded K.FrameKind.row K.Kind.fault line (bytes text.now) }
-{
-    test_length(line, K::kind_fields(), text)?;
-    keep(line, K::of_fields(byte_at(text, 1), fields_at(text)))
 }
 
 /// The row of a kind that a line spells.
 pub fn read_frame<K: FrameKind + Drop>(line: u16, digits: &[u8]) -> Result<K, Fault>
-    ensures { result ≡ framed K.Kind.tagged K.Kind.fielded K.FrameKind.row K.Kind.fault line digits.now }
+    ensures { result ≡ framed K.Kind.TAG K.Kind.FIELDS K.FrameKind.row K.Kind.fault line digits.now }
 {
-    test_digits(line, digits)?;
-    if tag_at(line, digits)? != K::kind_tag() {
-        return Err(Fault {
-            refusal: Refusal::UnknownTag,
-            line,
-            layer: Layer::Frame,
-        });
-    }
-    read_body(line, digits)
+    Frame::of(line, digits)?.row()
 }
 
 /// The row that a line spells, of any kind that a text may hold.
 pub fn read_row(line: u16, text: &[u8]) -> Result<TextRow, Fault>
     ensures { result ≡ row_of line text.now }
 {
-    test_digits(line, text)?;
-    let tag = tag_at(line, text)?;
-    if tag == PlainRow::TAG {
-        Ok(TextRow::Plain(read_body(line, text)?))
-    } else if tag == OpenRow::TAG {
-        Ok(TextRow::Open(read_body(line, text)?))
-    } else if tag == BoundedRow::TAG {
-        Ok(TextRow::Bounded(read_body(line, text)?))
-    } else {
-        Err(Fault {
-            refusal: Refusal::UnknownTag,
-            line,
-            layer: Layer::Frame,
-        })
-    }
+    Frame::of(line, text)?.text_row()
 }

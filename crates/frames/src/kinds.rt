@@ -28,11 +28,12 @@ impl FrameKind for PlainRow {
     ghost numbers = { λ r. plain_numbers r };
 
     fn of_fields(name: u8, fields: [u64; MOST_FIELDS]) -> PlainRow {
+        let [spacing, due, cost, _, _, _] = fields;
         PlainRow {
             name,
-            spacing: fields[0],
-            due: fields[1],
-            cost: fields[2],
+            spacing,
+            due,
+            cost,
         }
     }
 
@@ -47,12 +48,13 @@ impl FrameKind for OpenRow {
     ghost numbers = { λ r. open_numbers r };
 
     fn of_fields(name: u8, fields: [u64; MOST_FIELDS]) -> OpenRow {
+        let [spacing, first, wait, second, _, _] = fields;
         OpenRow {
             name,
-            spacing: fields[0],
-            first: fields[1],
-            wait: fields[2],
-            second: fields[3],
+            spacing,
+            first,
+            wait,
+            second,
         }
     }
 
@@ -67,14 +69,15 @@ impl FrameKind for BoundedRow {
     ghost numbers = { λ r. bounded_numbers r };
 
     fn of_fields(name: u8, fields: [u64; MOST_FIELDS]) -> BoundedRow {
+        let [spacing, first, second, total, wait, split] = fields;
         BoundedRow {
             name,
-            spacing: fields[0],
-            first: fields[1],
-            second: fields[2],
-            total: fields[3],
-            wait: fields[4],
-            split: fields[5],
+            spacing,
+            first,
+            second,
+            total,
+            wait,
+            split,
         }
     }
 
@@ -96,13 +99,14 @@ impl FrameKind for SettledRow {
     ghost numbers = { λ r. settled_numbers r };
 
     fn of_fields(name: u8, fields: [u64; MOST_FIELDS]) -> SettledRow {
+        let [spacing, first, wait, second, split, _] = fields;
         SettledRow {
             name,
-            spacing: fields[0],
-            first: fields[1],
-            wait: fields[2],
-            second: fields[3],
-            split: fields[4],
+            spacing,
+            first,
+            wait,
+            second,
+            split,
         }
     }
 

@@ -1,21 +1,27 @@
 -- Lines written byte by byte.
 use Rattle.std.proofs.Common.{◌≡◌, ℕ, zero, suc, ◌+◌, ◌*◌, ◌/◌, ◌%◌, ◌<◌, ◌≤◌, Bool, true, false, cond, ◌&&◌, leb, List, [], ◌∷◌, ◌++◌, length, get_or, take, drop, set, Some, None, Option, sym, refl, ap, ◌∙◌, arith, le-leb}
-use Rattle.std.proofs.lemmas.List.{append_assoc, take_more_set, take_more, take_all, length-set, at_drop_more, at_drop_all}
+use Rattle.std.proofs.lemmas.List.{append_assoc, take_more_set, take_more, length-set, at_drop_more}
 use Rattle.std.proofs.lemmas.Bool.Decides.{nat_tests}
 use Rattle.frames.specs.Hex.{digit, spelled, line}
 use Rattle.frames.specs.Frames.{in_bytes, framed_row}
-use Rattle.lines.specs.Lines.{eight, all_short, row_text, miss_text}
+use Rattle.lines.specs.Lines.{all_short, row_text}
 
-pub spelled_push : (bs : List ℕ) (b : ℕ) → spelled (bs ++ b ∷ []) ≡ spelled bs ++ digit (b / 16) ∷ digit (b % 16) ∷ []
+spelled_push : (bs : List ℕ) (b : ℕ) → spelled (bs ++ b ∷ []) ≡ spelled bs ++ digit (b / 16) ∷ digit (b % 16) ∷ []
 spelled_push [] b = refl
 spelled_push (a ∷ bs) b = ap (λ rest. digit (a / 16) ∷ digit (a % 16) ∷ rest) (spelled_push bs b)
 
-pub in_bytes_push : (ns : List ℕ) (n : ℕ) → in_bytes (ns ++ n ∷ []) ≡ in_bytes ns ++ (n / 256 % 256) ∷ (n % 256) ∷ []
+pub spelled_more : (bytes : List ℕ) (i : ℕ) → i < length bytes → spelled (take (i + 1) bytes) ≡ (spelled (take i bytes) ++ digit (get_or bytes i 0 / 16) ∷ []) ++ digit (get_or bytes i 0 % 16) ∷ []
+spelled_more bytes i h =
+    ap spelled (take_more bytes i 0 h)
+    ∙ spelled_push (take i bytes) (get_or bytes i 0)
+    ∙ sym (append_assoc (spelled (take i bytes)) (digit (get_or bytes i 0 / 16) ∷ []) (digit (get_or bytes i 0 % 16) ∷ []))
+
+in_bytes_push : (ns : List ℕ) (n : ℕ) → in_bytes (ns ++ n ∷ []) ≡ in_bytes ns ++ (n / 256 % 256) ∷ (n % 256) ∷ []
 in_bytes_push [] n = refl
 in_bytes_push (m ∷ ns) n = ap (λ rest. (m / 256 % 256) ∷ (m % 256) ∷ rest) (in_bytes_push ns n)
 
 -- two places more
-pub take_two : (xs : List ℕ) (m n m' : ℕ) (a b : ℕ) → n < length xs → n ≡ m + 1 → m' ≡ n + 1 → take m' (set (set xs m a) n b) ≡ take m xs ++ a ∷ b ∷ []
+take_two : (xs : List ℕ) (m n m' : ℕ) (a b : ℕ) → n < length xs → n ≡ m + 1 → m' ≡ n + 1 → take m' (set (set xs m a) n b) ≡ take m xs ++ a ∷ b ∷ []
 take_two xs m n m' a b h d e =
     let k : n < length (set xs m a) = simp length-set h in
     ap (λ l. take l (set (set xs m a) n b)) e
@@ -24,50 +30,16 @@ take_two xs m n m' a b h d e =
     ∙ ap (λ ys. ys ++ b ∷ []) (take_more_set xs m a (omega arith))
     ∙ append_assoc (take m xs) (a ∷ []) (b ∷ [])
 
-pub line_more : (xs bytes : List ℕ) (i a b : ℕ) → 2 * i + 1 < length xs → i < length bytes → take (2 * i) xs ≡ spelled (take i bytes) → a ≡ digit (get_or bytes i 0 / 16) → b ≡ digit (get_or bytes i 0 % 16) → take (2 * (i + 1)) (set (set xs (2 * i) a) (2 * i + 1) b) ≡ spelled (take (i + 1) bytes)
-line_more xs bytes i a b h l e p q =
-    take_two xs (2 * i) (2 * i + 1) (2 * (i + 1)) a b h refl (omega arith)
-    ∙ (λ j. e j ++ p j ∷ q j ∷ [])
-    ∙ sym (spelled_push (take i bytes) (get_or bytes i 0))
-    ∙ ap spelled (sym (take_more bytes i 0 l))
-
-pub line_end : (xs bytes : List ℕ) (i n : ℕ) → 2 * n < length xs → i ≡ n → n ≡ length bytes → take (2 * i) xs ≡ spelled (take i bytes) → take (2 * n + 1) (set xs (2 * n) 10) ≡ line bytes
-line_end xs bytes i n h s l e =
-    take_more_set xs (2 * n) 10 h
-    ∙ ap (λ ys. ys ++ 10 ∷ []) (ap (λ k. take (2 * k) xs) (sym s) ∙ e ∙ ap spelled (ap (λ k. take k bytes) s ∙ take_all n bytes (omega arith)))
-
-abbrev some_text : List ℕ → Option (List ℕ)
-some_text x = Some x
-
-pub miss_is : (o : Option ℕ) (name piece instant : ℕ) (x : List ℕ) → o ≡ Some name → piece ≤ 255 → x ≡ line (245 ∷ name ∷ piece ∷ eight instant) → Some x ≡ miss_text o piece instant
-miss_is o name piece instant x e h p =
-    ap some_text p
-    ∙ ap (λ (b : Bool). cond b (some_text (line (245 ∷ name ∷ piece ∷ eight instant))) None) (sym (le-leb piece 255 h))
-    ∙ ap (λ (o : Option ℕ). miss_text o piece instant) (sym e)
-
-module _ (ns : List ℕ) (i : ℕ) (h : i < length ns) where
-  pub short_more : get_or ns i 0 ≤ 65535 → all_short (drop (i + 1) ns) ≡ all_short (drop i ns)
-  short_more d =
-      let e : all_short (drop i ns) ≡ leb (get_or ns i 0) 65535 && all_short (drop (i + 1) ns) = at_drop_more all_short ns i 0 h in
-      grind (arith, nat_tests)
-
-  pub short_stop : 65535 < get_or ns i 0 → all_short (drop i ns) ≡ false
-  short_stop d =
-      let e : all_short (drop i ns) ≡ leb (get_or ns i 0) 65535 && all_short (drop (i + 1) ns) = at_drop_more all_short ns i 0 h in
-      grind (arith, nat_tests)
-
-pub short_end : (ns : List ℕ) (i : ℕ) → length ns ≤ i → all_short (drop i ns) ≡ true
-short_end ns i h = at_drop_all all_short ns i h
+pub short_more : (ns : List ℕ) (i : ℕ) → i < length ns → get_or ns i 0 ≤ 65535 → all_short (drop (i + 1) ns) ≡ all_short (drop i ns)
+short_more ns i h d =
+    let e : all_short (drop i ns) ≡ leb (get_or ns i 0) 65535 && all_short (drop (i + 1) ns) = at_drop_more all_short ns i 0 h in
+    grind (arith, nat_tests)
 
 pub frame_more : (frame fields : List ℕ) (tag name k a b : ℕ) → 2 * k + 3 < length frame → k < length fields → take (2 * k + 2) frame ≡ framed_row tag name (take k fields) → a ≡ get_or fields k 0 / 256 % 256 → b ≡ get_or fields k 0 % 256 → take (2 * (k + 1) + 2) (set (set frame (2 * k + 2) a) (2 * k + 3) b) ≡ framed_row tag name (take (k + 1) fields)
 frame_more frame fields tag name k a b h l e p q =
     take_two frame (2 * k + 2) (2 * k + 3) (2 * (k + 1) + 2) a b h (omega arith) (omega arith)
     ∙ (λ j. e j ++ p j ∷ q j ∷ [])
     ∙ ap (λ (ns : List ℕ). tag ∷ name ∷ ns) (sym (in_bytes_push (take k fields) (get_or fields k 0)) ∙ ap in_bytes (sym (take_more fields k 0 l)))
-
-pub frame_end : (frame fields : List ℕ) (tag name k : ℕ) → length frame ≡ 14 → 6 ≤ k → k ≤ 6 → length fields ≡ 6 → take (2 * k + 2) frame ≡ framed_row tag name (take k fields) → frame ≡ framed_row tag name fields
-frame_end frame fields tag name k h a b l e =
-    sym (take_all (2 * k + 2) frame (omega arith)) ∙ e ∙ ap (framed_row tag name) (take_all k fields (omega arith))
 
 take_in_bytes : (k n : ℕ) (ns : List ℕ) → n ≡ 2 * k → take n (in_bytes ns) ≡ in_bytes (take k ns)
 take_in_bytes zero zero ns e = refl
@@ -78,7 +50,7 @@ take_in_bytes (suc k) (suc (suc n)) [] e = refl
 take_in_bytes (suc k) (suc (suc n)) (m ∷ ns) e = ap (λ rest. (m / 256 % 256) ∷ (m % 256) ∷ rest) (take_in_bytes k n ns (omega arith))
 
 -- the bytes of a frame of fewer fields
-pub frame_front : (tag name count n : ℕ) (ns : List ℕ) → n ≡ 2 + 2 * count → take n (framed_row tag name ns) ≡ framed_row tag name (take count ns)
+frame_front : (tag name count n : ℕ) (ns : List ℕ) → n ≡ 2 + 2 * count → take n (framed_row tag name ns) ≡ framed_row tag name (take count ns)
 frame_front tag name count zero ns e = absurd (omega arith)
 frame_front tag name count (suc zero) ns e = absurd (omega arith)
 frame_front tag name count (suc (suc n)) ns e = ap (λ (rest : List ℕ). tag ∷ name ∷ rest) (take_in_bytes count n ns (omega arith))
@@ -86,18 +58,12 @@ frame_front tag name count (suc (suc n)) ns e = ap (λ (rest : List ℕ). tag �
 abbrev some_frame : List ℕ → Option (List ℕ)
 some_frame x = Some x
 
-pub frame_told : (ns frame : List ℕ) (tag name : ℕ) → all_short ns ≡ true → frame ≡ framed_row tag name ns → some_frame frame ≡ cond (all_short ns) (Some (framed_row tag name ns)) None
-frame_told ns frame tag name s e = ap some_frame e ∙ ap (λ (b : Bool). cond b (some_frame (framed_row tag name ns)) None) (sym s)
-
-pub frame_refused : (ns : List ℕ) (tag name : ℕ) → all_short ns ≡ false → None ≡ cond (all_short ns) (some_frame (framed_row tag name ns)) None
-frame_refused ns tag name s = ap (λ (b : Bool). cond b (some_frame (framed_row tag name ns)) None) (sym s)
-
 some_same : (x y : List ℕ) → some_frame x ≡ Some y → x ≡ y
 some_same x y e = cc
 
 told_frame : (b : Bool) (x y : List ℕ) → cond b (some_frame x) None ≡ Some y → (b ≡ true) × (x ≡ y)
 told_frame true x y e = (refl, some_same x y e)
-told_frame false x y e = let z : ◌≡◌ {A = ℕ} 0 1 = cc in absurd (omega arith)
+told_frame false x y e = (cc, cc)
 
 pub row_told : (tag count name n : ℕ) (ns frame x : List ℕ) → count ≤ 6 → cond (all_short ns) (some_frame (framed_row tag name ns)) None ≡ Some frame → x ≡ line (take n frame) → n ≡ 2 + 2 * count → Some x ≡ row_text tag count name ns
 row_told tag count name n ns frame x c f e p =

@@ -1,5 +1,5 @@
 //! A line of text as it is written.
-ghost use Rattle.std.specs.Prelude.{◌≡◌, ◌<◌, ◌≤◌, length, take};
+ghost use Rattle.std.specs.Prelude.{◌≡◌, ◌+◌, ◌<◌, ◌≤◌, [], ◌∷◌, ◌++◌, length, take};
 ghost use Rattle.frames.specs.Hex.{digit, line};
 
 /// The most bytes of a frame: a tag, a name and six fields of two bytes.
@@ -9,6 +9,8 @@ pub const MOST_BYTES: usize = 14;
 pub const MOST_TEXT: usize = 29;
 
 /// A frame's digits and the line's end.
+// An array with a length beside it: a line is copied and handed out as bytes; ArrayVec is not copied, and ArrayString
+// holds text.
 #[derive(Clone, Copy)]
 pub struct Line {
     text: [u8; MOST_TEXT],
@@ -18,6 +20,7 @@ pub struct Line {
 }
 
 /// The digit of a value.
+// Not char::from_digit: its letters are small.
 fn digit_of(value: u8) -> u8
     requires { value < 16 }
     ensures { result ≡ digit value }
@@ -31,27 +34,36 @@ fn digit_of(value: u8) -> u8
 
 impl Line {
     /// The line of some bytes.
+    #[tactic(auto, using(crate::proofs::Written::spelled_more))]
     pub(crate) fn of(bytes: &[u8]) -> Line
         requires { length bytes.now ≤ 14 }
         ensures { take result.size result.text ≡ line bytes.now }
     {
-        let mut text = [0; MOST_TEXT];
-        for i in 0..bytes.len() {
-            text[2 * i] = digit_of(bytes[i] / 16);
-            text[2 * i + 1] = digit_of(bytes[i] % 16);
+        let mut line = Line {
+            text: [0; MOST_TEXT],
+            size: 0,
+        };
+        for byte in bytes {
+            line.push(digit_of(*byte / 16));
+            line.push(digit_of(*byte % 16));
         }
-        let end = 2 * bytes.len();
-        text[end] = b'\n';
-        Line {
-            text,
-            size: end + 1,
-        }
+        line.push(b'\n');
+        line
+    }
+
+    fn push(&mut self, byte: u8)
+        requires { self.old.size < 29 }
+        ensures size { self.new.size ≡ self.old.size + 1 }
+        ensures text { take self.new.size self.new.text ≡ take self.old.size self.old.text ++ byte ∷ [] }
+    {
+        self.text[self.size] = byte;
+        self.size += 1;
     }
 
     /// The bytes of the line, its end included.
     pub fn as_slice(&self) -> &[u8]
         ensures { result.now ≡ take self.now.size self.now.text }
     {
-        &self.text[0..self.size]
+        &self.text[..self.size]
     }
 }

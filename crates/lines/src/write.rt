@@ -21,13 +21,10 @@ fn frame_of(tag: u8, name: u8, fields: [u64; MOST_FIELDS]) -> Option<[u8; MOST_B
     let mut frame = [0; MOST_BYTES];
     frame[0] = tag;
     frame[1] = name;
-    for k in 0..MOST_FIELDS {
-        if fields[k] > 65_535 {
-            return None;
-        }
-        let bytes = fields[k].to_be_bytes();
-        frame[2 * k + 2] = bytes[6];
-        frame[2 * k + 3] = bytes[7];
+    for (k, field) in fields.iter().enumerate() {
+        let [high, low] = u16::try_from(*field).ok()?.to_be_bytes();
+        frame[2 * k + 2] = high;
+        frame[2 * k + 3] = low;
     }
     Some(frame)
 }
@@ -35,14 +32,13 @@ fn frame_of(tag: u8, name: u8, fields: [u64; MOST_FIELDS]) -> Option<[u8; MOST_B
 /// The line of a row: its tag, its name and its fields; none where a number does not fit its field, or the kind has
 /// more than six.
 pub fn row_line<K: FrameKind>(row: &K) -> Option<Line>
-    ensures { wrote result ≡ row_text K.Kind.tagged K.Kind.fielded (K.Kind.title row.now) (K.FrameKind.numbers row.now) }
+    ensures { wrote result ≡ row_text K.Kind.TAG K.Kind.FIELDS (K.Kind.title row.now) (K.FrameKind.numbers row.now) }
 {
-    let count = K::kind_fields();
-    if count > MOST_FIELDS {
+    if K::FIELDS > MOST_FIELDS {
         return None;
     }
-    let frame = frame_of(K::kind_tag(), row.name(), row.fields())?;
-    Some(Line::of(&frame[0..2 + 2 * count]))
+    let frame = frame_of(K::TAG, row.name(), row.fields())?;
+    Some(Line::of(&frame[..2 + 2 * K::FIELDS]))
 }
 
 /// The line that ends a settled table: F0.
@@ -88,9 +84,7 @@ pub fn miss_line<L: Named>(load: &L, task: u64, piece: u64, instant: u64) -> Opt
     ensures { wrote result ≡ miss_text (name_told (found (L.Load.tasks load.now) task) (L.Named.names load.now task)) piece instant }
 {
     let name = load.name(task)?;
-    if piece > 255 {
-        return None;
-    }
+    let piece = u8::try_from(piece).ok()?;
     let [a, b, c, d, e, f, g, h] = instant.to_be_bytes();
-    Some(Line::of(&[0xF5, name, piece as u8, a, b, c, d, e, f, g, h]))
+    Some(Line::of(&[0xF5, name, piece, a, b, c, d, e, f, g, h]))
 }

@@ -13,6 +13,7 @@ pub struct Factor {
 }
 
 impl Factor {
+    // `new` and not `TryFrom`: a number is no other form of a factor.
     /// A factor, unless it is out of range.
     pub fn new(value: u64) -> Result<Factor, Refusal>
         ensures { MatchResult result (λ f. (factor_fault value ≡ None) × (f.value ≡ value)) (λ e. factor_fault value ≡ Some e) }
@@ -27,9 +28,6 @@ impl Factor {
     pub fn times(&self, cost: u64) -> u64
         ensures { result ≡ told (self.now.value * cost) }
     {
-        if cost >= 1_000_000_000_000_000 {
-            return 1_000_000_000_000_000;
-        }
-        (self.value * cost).min(1_000_000_000_000_000)
+        self.value.saturating_mul(cost).min(1_000_000_000_000_000)
     }
 }

@@ -1,4 +1,4 @@
-//! A load that is lent is a load.
+//! A load that is lent is a load: each question goes to the load behind the reference.
 use crate::load::Load;
 use crate::named::Named;
 

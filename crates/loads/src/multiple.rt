@@ -24,5 +24,5 @@ pub fn common_multiple(a: u64, b: u64) -> Option<u64>
         return Some(0);
     }
     let least = (a / greatest_divisor(a, b)).checked_mul(b)?;
-    if least <= 100_000 { Some(least) } else { None }
+    (least <= 100_000).then_some(least)
 }

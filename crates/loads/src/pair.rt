@@ -1,8 +1,9 @@
 //! Two loads, one after the other.
-ghost use Rattle.std.specs.Prelude.{◌≡◌, ◌++◌};
+ghost use Rattle.std.specs.Prelude.{◌≡◌, ◌++◌, None, MatchOption};
 ghost use Rattle.std.proofs.ByRecursion.{All-append};
-ghost use Rattle.model.specs.Asked.{names_then};
+ghost use Rattle.model.specs.Asked.{found, names_then};
 ghost use Rattle.model.specs.Task.{Lawful};
+ghost use Rattle.loads.specs.Pair.{Stands};
 
 use crate::load::Load;
 use crate::multiple::common_multiple;
@@ -15,57 +16,63 @@ pub struct Pair<A, B> {
     pub second: B,
 }
 
+/// One of a pair's loads, and a task's number there.
+#[derive(Clone, Copy)]
+enum Side {
+    First(u64),
+    Second(u64),
+}
+
+impl<A: Load, B: Load> Pair<A, B> {
+    /// Where a task stands, if one of the loads may have it.
+    fn side(&self, task: u64) -> Option<Side>
+        ensures { MatchOption result (found (A.Load.tasks self.now.first ++ B.Load.tasks self.now.second) task ≡ None) (Stands (A.Load.tasks self.now.first) (B.Load.tasks self.now.second) task) }
+    {
+        let before = self.first.count();
+        if task < before {
+            Some(Side::First(task))
+        } else if task < 32 {
+            Some(Side::Second(task - before))
+        } else {
+            None
+        }
+    }
+}
+
 impl<A: Load, B: Load> Load for Pair<A, B> {
     ghost tasks = { λ p. A.Load.tasks p.first ++ B.Load.tasks p.second };
 
     ghost lawful = { λ p. All-append Lawful _ _ (A.Load.lawful p.first) (B.Load.lawful p.second) };
 
     fn count(&self) -> u64 {
-        let all = self.first.count() + self.second.count();
-        if all < 33 { all } else { 33 }
+        (self.first.count() + self.second.count()).min(33)
     }
 
     fn spacing(&self, task: u64) -> Option<u64> {
-        let before = self.first.count();
-        if task < before {
-            self.first.spacing(task)
-        } else if task < 32 {
-            self.second.spacing(task - before)
-        } else {
-            None
+        match self.side(task)? {
+            Side::First(i) => self.first.spacing(i),
+            Side::Second(i) => self.second.spacing(i),
         }
     }
 
     fn total(&self, task: u64) -> Option<u64> {
-        let before = self.first.count();
-        if task < before {
-            self.first.total(task)
-        } else if task < 32 {
-            self.second.total(task - before)
-        } else {
-            None
+        match self.side(task)? {
+            Side::First(i) => self.first.total(i),
+            Side::Second(i) => self.second.total(i),
         }
     }
 
     fn piece(&self, task: u64, number: u64) -> Option<(u64, u64, u64)> {
-        let before = self.first.count();
-        if task < before {
-            self.first.piece(task, number)
-        } else if task < 32 {
-            self.second.piece(task - before, number)
-        } else {
-            None
+        match self.side(task)? {
+            Side::First(i) => self.first.piece(i, number),
+            Side::Second(i) => self.second.piece(i, number),
         }
     }
 
     fn demand(&self, task: u64, length: u64) -> Option<u64> {
-        let before = self.first.count();
-        if task < before {
-            self.first.demand(task, length)
-        } else if task < 32 {
-            self.second.demand(task - before, length)
-        } else {
-            None
+        match self.side(task)? {
+            Side::First(i) => self.first.demand(i, length),
+            Side::Second(i) => self.second.demand(i, length),
         }
     }
 
@@ -80,13 +87,9 @@ impl<A: Named, B: Named> Named for Pair<A, B> {
     ghost names = { λ p. names_then (A.Load.tasks p.first) (A.Named.names p.first) (B.Named.names p.second) };
 
     fn name(&self, task: u64) -> Option<u8> {
-        let before = self.first.count();
-        if task < before {
-            self.first.name(task)
-        } else if task < 32 {
-            self.second.name(task - before)
-        } else {
-            None
+        match self.side(task)? {
+            Side::First(i) => self.first.name(i),
+            Side::Second(i) => self.second.name(i),
         }
     }
 }

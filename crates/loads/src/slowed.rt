@@ -1,5 +1,4 @@
 //! A load on a slower machine: its costs are multiplied.
-ghost use Rattle.std.specs.Prelude.{◌≡◌};
 ghost use Rattle.model.proofs.Demand.Slow.{factor_lawful};
 ghost use Rattle.model.specs.Slow.{slowed as slowed_tasks};
 
@@ -28,8 +27,7 @@ impl<L: Load> Load for Slowed<L> {
     }
 
     fn total(&self, task: u64) -> Option<u64> {
-        let total = self.load.total(task)?;
-        Some(self.factor.times(total))
+        self.load.total(task).map(|total| self.factor.times(total))
     }
 
     fn piece(&self, task: u64, number: u64) -> Option<(u64, u64, u64)> {
@@ -38,8 +36,9 @@ impl<L: Load> Load for Slowed<L> {
     }
 
     fn demand(&self, task: u64, length: u64) -> Option<u64> {
-        let demand = self.load.demand(task, length)?;
-        Some(self.factor.times(demand))
+        self.load
+            .demand(task, length)
+            .map(|demand| self.factor.times(demand))
     }
 
     fn round(&self) -> Option<u64> {

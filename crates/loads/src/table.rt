@@ -35,10 +35,11 @@ impl<'a, R: Bare> Table<'a, R> {
         ensures means { MatchOption result (found (map R.Bare.task self.now.rows.now) task ≡ None) (λ m. found (map R.Bare.task self.now.rows.now) task ≡ Some (R.Made.Row.task m)) }
         ensures named { MatchOption result (found (map R.Bare.task self.now.rows.now) task ≡ None) (λ m. Some (R.Made.Row.title m) ≡ name_told (found (map R.Bare.task self.now.rows.now) task) (slice_index (map R.Kind.title self.now.rows.now) task)) }
     {
-        if task < 32 && task < self.rows.len() as u64 {
-            return Some(self.rows[task as usize].kept());
+        // Nothing is told of a task numbered 32 or more.
+        if task >= 32 {
+            return None;
         }
-        None
+        Some(self.rows.get(task as usize)?.kept())
     }
 }
 

@@ -1,12 +1,12 @@
 -- A task's pieces, copied one by one.
-use Rattle.std.proofs.Common.{◌≡◌, ℕ, zero, suc, ◌+◌, ◌<◌, ◌≤◌, ltb, List, [], ◌∷◌, ◌++◌, map, length, get_or, take, set, Some, None, Option, sym, refl, ap, ◌∙◌, subst, ⊎_elim, add-one, arith}
+use Rattle.std.proofs.Common.{◌≡◌, ℕ, zero, suc, ◌+◌, ◌<◌, ◌≤◌, ltb, List, [], ◌∷◌, map, length, get_or, take, set, Some, None, Option, sym, refl, ap, ◌∙◌, subst, ⊎_elim, arith}
 use Rattle.std.specs.List.{slice_get, AllByRecursion}
 use Rattle.std.specs.Option.{option_map}
-use Rattle.std.proofs.lemmas.List.{take_more_set, map_more, take_all, length-set, get_or-take, get_or-map}
-use Rattle.std.proofs.lemmas.Option.{slice_get-get_or, slice_get_past}
-use Rattle.std.proofs.lemmas.Bool.{cases_lt, cond_both}
+use Rattle.std.proofs.lemmas.List.{take_all, take-set, length-set, get_or-take, get_or-map}
+use Rattle.std.proofs.lemmas.Option.{slice_get_cases}
+use Rattle.std.proofs.lemmas.Bool.{cond_both}
 use Rattle.model.specs.Task as task
-use Rattle.model.specs.Asked.{told, found, spacing_told, total_told, piece_told, nth_piece, piece_tuple}
+use Rattle.model.specs.Asked.{told, found, spacing_told, total_told, nth_piece, piece_told, piece_tuple}
 use Rattle.model.specs.Told.{told_piece, told_task}
 use Rattle.machine.specs.declared.piece.Piece.{Piece}
 use Rattle.machine.specs.Pieces.{no_piece}
@@ -20,38 +20,9 @@ none = record { ready = 0; due = 0; cap = 0 }
 pub some_of : {X : Type 0} (x y : X) → Some x ≡ Some y → x ≡ y
 some_of x y e = cc
 
--- the next piece that the load tells is the task's
-next_piece : (ps : List task.Piece) (n r c d : ℕ) → Some (r, c, d) ≡ nth_piece ps (n + 1) → (n < length ps) × (record { ready = r; cap = c; due = d } ≡ copied_piece (get_or ps n none))
-next_piece ps n r c d e = ⊎_elim
-    (λ l. (l, there (get_or ps n none) (some_of (r, c, d) (piece_tuple (get_or ps n none)) (e ∙ ap (nth_piece ps) (add-one n) ∙ ap (option_map piece_tuple) (slice_get-get_or ps n none l)))))
-    (λ l. let z : Some (r, c, d) ≡ None = e ∙ ap (nth_piece ps) (add-one n) ∙ ap (option_map piece_tuple) (slice_get_past ps n l) in let y : ◌≡◌ {A = ℕ} 0 1 = cc in absurd (omega arith))
-    (cases_lt n (length ps))
-  where
-    there : (p : task.Piece) → (r, c, d) ≡ piece_tuple p → record { ready = r; cap = c; due = d } ≡ copied_piece p
-    there p q = λ k. record { ready = (q k).0; cap = (q k).1; due = (q k).2 }
-
-pub copy_more : (o : Option task.Task) (n : ℕ) (ps : List Piece) (r c d : ℕ) → n < 4 → Some (r, c, d) ≡ piece_told o (n + 1) → Copying o n ps → Copying o (n + 1) (set ps n (record { ready = r; cap = c; due = d }))
-copy_more None n ps r c d l e h = tt
-copy_more (Some t) n ps r c d l e h =
-    let p = next_piece t.pieces n r c d e in
-    let m : n < length t.pieces = p.0 in (
-      length-set ps n (record { ready = r; cap = c; due = d }) ∙ h.0,
-      omega arith,
-      take_more_set ps n (record { ready = r; cap = c; due = d }) (omega (arith, h.0))
-          ∙ (λ k. h.2 k ++ p.1 k ∷ [])
-          ∙ sym (map_more copied_piece t.pieces n none m),
-    )
-
-pub copy_stop : (o : Option task.Task) (n : ℕ) (ps : List Piece) → None ≡ piece_told o (n + 1) → Copying o n ps → Copied o n ps
-copy_stop None n ps e h = tt
-copy_stop (Some t) n ps e h = ⊎_elim
-    (λ l. let z : None ≡ Some (piece_tuple (get_or t.pieces n none)) = e ∙ ap (nth_piece t.pieces) (add-one n) ∙ ap (option_map piece_tuple) (slice_get-get_or t.pieces n none l) in let y : ◌≡◌ {A = ℕ} 0 1 = cc in absurd (omega arith))
-    (λ l. (h.0, omega (arith, h.1), h.2 ∙ ap (map copied_piece) (take_all n t.pieces l)))
-    (cases_lt n (length t.pieces))
-
 -- a task that the load has is lawful
 pub lawful_nth : (ts : List task.Task) → AllByRecursion task.Lawful ts → (i : ℕ) (t : task.Task) → slice_get ts i ≡ Some t → task.Lawful t
-lawful_nth [] a i t e = let z : ◌≡◌ {A = ℕ} 0 1 = cc in absurd (omega arith)
+lawful_nth [] a i t e = absurd (cc)
 lawful_nth (x ∷ xs) a zero t e = subst task.Lawful (some_of x t e) a.0
 lawful_nth (x ∷ xs) a (suc i) t e = lawful_nth xs a.1 i t e
 
@@ -70,6 +41,17 @@ rightful_at ts a i = cond_both (ltb i 32) (slice_get ts i) None Rightful (λ _. 
 pub copy_all : (o : Option task.Task) (n : ℕ) (ps : List Piece) → 4 ≤ n → Rightful o → Copying o n ps → Copied o n ps
 copy_all None n ps l r h = tt
 copy_all (Some t) n ps l r h = (h.0, omega (arith, h.1, r.few), h.2 ∙ ap (map copied_piece) (take_all n t.pieces (omega (arith, r.few))))
+
+-- the task has no piece beyond those that are copied, whatever stands in the next place
+no_more : (ps : List task.Piece) (n j : ℕ) → j ≡ n + 1 → nth_piece ps j ≡ None → length ps ≤ n
+no_more ps n zero is e = absurd (omega arith)
+no_more ps n (suc j) is e = ⊎_elim (λ s. absurd (let q = sym (ap (option_map piece_tuple) s.2) ∙ e in cc)) (λ s. omega (arith, s.0)) (slice_get_cases ps j).1
+
+pub copy_stop : (o : Option task.Task) (n : ℕ) (ps : List Piece) (p : Piece) → Copying o n ps → None ≡ piece_told o (n + 1) → Copied o n (set ps n p)
+copy_stop None n ps p h e = tt
+copy_stop (Some t) n ps p h e =
+    let past = no_more t.pieces n (n + 1) refl (sym e) in
+    (length-set ps n p ∙ h.0, omega (arith, h.1, past), take-set ps n p ∙ h.2 ∙ ap (map copied_piece) (take_all n t.pieces past))
 
 -- a lawful task's numbers
 
@@ -98,7 +80,7 @@ Owed spacing count ps =
     ((k : ℕ) → k < count → (get_or ps k no_piece).cap ≤ 1000000000000000)
 
 pub owed : (o : Option task.Task) (s n : ℕ) (ps : List Piece) → Rightful o → Some s ≡ spacing_told o → Copied o n ps → Owed s n ps
-owed None s n ps r e h = let z : ◌≡◌ {A = ℕ} 0 1 = cc in absurd (omega arith)
+owed None s n ps r e h = absurd (cc)
 owed (Some t) s n ps r e h =
     let same : s ≡ t.spacing = some_of s t.spacing e in
     let some = starts_some t.pieces r.starts in
@@ -115,7 +97,7 @@ owed (Some t) s n ps r e h =
     )
 
 pub copied_task : (o : Option task.Task) (s m n : ℕ) (ps : List Piece) → Some s ≡ spacing_told o → Some m ≡ total_told o → Copied o n ps → Some (record { spacing = s; total = m; pieces = map piece_of (take n ps) }) ≡ option_map told_task o
-copied_task None s m n ps e f h = let z : ◌≡◌ {A = ℕ} 0 1 = cc in absurd (omega arith)
+copied_task None s m n ps e f h = absurd (cc)
 copied_task (Some t) s m n ps e f h =
     let a : s ≡ t.spacing = some_of s t.spacing e in
     let b : m ≡ told t.total = some_of m (told t.total) f in

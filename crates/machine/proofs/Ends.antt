@@ -39,9 +39,9 @@ finish_is e p r m now l =
     λ k. record { last = e.last; left = left k; ran_now = ran k; ran_before = e.before + m }
 
 ended_in : (e : Entry) (f : Phase) (now a : ℕ) → GoodPhase e.task e.before f → ready_in e.task e.last f ≡ Some a → progress_of (moved_in e f (End now)) ≡ model.finished (view e f)
-ended_in e Rest now a g h = let z : ◌≡◌ {A = ℕ} 0 1 = cc in absurd (omega arith)
+ended_in e Rest now a g h = absurd (cc)
 ended_in e (Ready p r) now a g h = finish_is e p r r now g.0
-ended_in e (Held p) now a g h = let z : ◌≡◌ {A = ℕ} 0 1 = cc in absurd (omega arith)
+ended_in e (Held p) now a g h = absurd (cc)
 
 pub ended_progress : (e : Entry) (now a : ℕ) → GoodEntry e → ready_key e ≡ Some a → progress_of (moved e (End now)) ≡ model.finished (progress_of e)
 ended_progress e now a g h = ended_in e e.phase now a g.0 h
@@ -50,11 +50,11 @@ limit_is : (e : Entry) (p r : ℕ) → p < e.task.count → model.limit (task_of
 limit_is e p r l = ap (model.limit_of (task_of e) (view e (Ready p r))) (left_is e.task p l)
 
 ticked_in : (e : Entry) (f : Phase) (now a : ℕ) → GoodPhase e.task e.before f → ready_in e.task e.last f ≡ Some a → progress_of (moved_in e f (Tick now)) ≡ model.ran_tick (task_of e) (view e f)
-ticked_in e Rest now a g h = let z : ◌≡◌ {A = ℕ} 0 1 = cc in absurd (omega arith)
+ticked_in e Rest now a g h = absurd (cc)
 ticked_in e (Ready p r) now a g h = cond_both (leb (limit_at e.task e.before p) (r + 1)) _ _ (λ m. progress_of m ≡ model.ran_tick (task_of e) (view e (Ready p r)))
     (λ t. finish_is e p r (r + 1) now g.0 ∙ sym (cond-true _ _ _ (ap (λ l. leb l (r + 1)) (limit_is e p r g.0) ∙ t)))
     (λ t. sym (cond-false _ _ _ (ap (λ l. leb l (r + 1)) (limit_is e p r g.0) ∙ t)))
-ticked_in e (Held p) now a g h = let z : ◌≡◌ {A = ℕ} 0 1 = cc in absurd (omega arith)
+ticked_in e (Held p) now a g h = absurd (cc)
 
 pub ticked_progress : (e : Entry) (now a : ℕ) → GoodEntry e → ready_key e ≡ Some a → progress_of (moved e (Tick now)) ≡ model.ran_tick (task_of e) (progress_of e)
 ticked_progress e now a g h = ticked_in e e.phase now a g.0 h

@@ -1,12 +1,13 @@
 -- The top of a line is the least of the keys whose records it holds.
-use Rattle.std.proofs.Common.{◌≡◌, ℕ, zero, suc, ◌+◌, ◌<◌, ◌≤◌, true, cond, ◌&&◌, eqb, ◌⊎◌, List, [], ◌∷◌, length, get_or, Some, None, sum_by, Option, sym, refl, ap, ◌∙◌, subst, inl, inr, ⊎_elim, arith}
+use Rattle.std.proofs.Common.{◌≡◌, ℕ, zero, suc, ◌+◌, ◌<◌, ◌≤◌, true, cond, ◌&&◌, eqb, ◌⊎◌, List, [], ◌∷◌, length, get_or, IfSome, Some, None, sum_by, Option, sym, refl, ap, ◌∙◌, subst, inl, inr, ⊎_elim, arith}
 use Rattle.std.specs.List.{ContainsAt as Has, AllByRecursion}
 use Rattle.std.proofs.lemmas.List.Sums.{sum_by-cons, get_or-le-sum_by}
 use Rattle.std.proofs.lemmas.Bool.Decides.{nat_tests}
 use Rattle.std.proofs.lemmas.Bool.{and_parts, eqb-true, cond-false, cases_Bool}
 use Rattle.queue.specs.Held.{First}
-use Rattle.model.specs.Machine.{Pick, least}
-use Rattle.model.proofs.Least.{least_is, none_chosen}
+use Rattle.std.specs.Option.{option_map}
+use Rattle.model.specs.Machine.{Pick, Chosen, least}
+use Rattle.model.proofs.Least.{least_is, chosen, none_chosen}
 use Rattle.machine.specs.Lines.{pick_before, tally, Holds, Fronts}
 
 -- 1 at x, and 0 elsewhere
@@ -28,8 +29,8 @@ one_cases x y = ⊎_elim
 
 -- what has a key counts
 pub tally_at : (f : Pick → ℕ) (i : ℕ) (ks : List (Option ℕ)) (j n a : ℕ) → i + j ≡ n → get_or ks j None ≡ Some a → f (record { number = n; key = a }) ≤ tally f i ks
-tally_at f i [] j n a l e = let z : ◌≡◌ {A = ℕ} 0 1 = cc in absurd (omega arith)
-tally_at f i (None ∷ ks) zero n a l e = let z : ◌≡◌ {A = ℕ} 0 1 = cc in absurd (omega arith)
+tally_at f i [] j n a l e = absurd (cc)
+tally_at f i (None ∷ ks) zero n a l e = absurd (cc)
 tally_at f i (Some b ∷ ks) zero n a l e =
     let s : f (record { number = n; key = a }) ≡ f (record { number = i; key = b }) = (let p : a ≡ b = cc in let q : n ≡ i = omega arith in λ k. f (record { number = q k; key = p k })) in
     omega arith
@@ -89,7 +90,7 @@ has_counts xs x has =
     omega (arith, get_or-le-sum_by (one x) xs has.0 x has.1, c)
 
 pub some_within : (ks : List (Option ℕ)) (j a : ℕ) → get_or ks j None ≡ Some a → j < length ks
-some_within [] j a e = let z : ◌≡◌ {A = ℕ} 0 1 = cc in absurd (omega arith)
+some_within [] j a e = absurd (cc)
 some_within (k ∷ ks) zero a e = omega arith
 some_within (k ∷ ks) (suc j) a e = omega (arith, some_within ks j a e)
 
@@ -103,3 +104,15 @@ front_some xs ks h x first has = picked_is ks x (held_has_key xs ks h x has) (fi
 pub front_is : (xs : List Pick) (ks : List (Option ℕ)) → Holds xs ks → (r : Option Pick) → Fronts xs r → least ks ≡ r
 front_is xs ks h None e = none_chosen ks (λ j l. none_least xs ks h e j)
 front_is xs ks h (Some x) p = front_some xs ks h x p.0 (has_counts xs x p.1)
+
+pick_within : (count : ℕ) (ks : List (Option ℕ)) (x : Pick) → length ks ≡ count → least ks ≡ Some x → x.number < count
+pick_within count ks x l e = within (least ks) (chosen ks) e
+  where
+    within : (o : Option Pick) → Chosen ks o → o ≡ Some x → x.number < count
+    within None c e = absurd (cc)
+    within (Some c) p e = let n : c.number ≡ x.number = cc in omega (arith, p.within)
+
+-- what a line tells of its front, by its records
+pub front_picked : {X : Type 0} (pick : X → Pick) (xs : List Pick) (ks : List (Option ℕ)) → Holds xs ks → (r : Option X) → Fronts xs (option_map pick r) → (count : ℕ) → length ks ≡ count → (least ks ≡ option_map pick r) × IfSome r (λ d. (pick d).number < count)
+front_picked pick xs ks h None f count l = (front_is xs ks h None f, tt)
+front_picked pick xs ks h (Some x) f count l = let e = front_is xs ks h (Some (pick x)) f in (e, pick_within count ks (pick x) l e)

@@ -1,6 +1,6 @@
 -- The core's view, by its entries.
-use Rattle.std.proofs.Common.{◌≡◌, ℕ, ◌+◌, ◌<◌, ◌≤◌, false, List, ◌∷◌, map, length, get_or, take, drop, set, sym, refl, ap, ◌∙◌, arith}
-use Rattle.std.proofs.lemmas.List.{map-set, get_or-map, length-map, length-take-le, get_or-take, set-get_or, drop_more}
+use Rattle.std.proofs.Common.{◌≡◌, ℕ, ◌+◌, ◌<◌, false, ◌∷◌, length, take, drop, refl, ap, ◌∙◌, arith}
+use Rattle.std.proofs.lemmas.List.{get_or-map, length-map, length-take-le, get_or-take, drop_more}
 use Rattle.model.specs.Task as task
 use Rattle.model.specs.Machine as model
 use Rattle.machine.specs.declared.numbers.Numbers.{Numbers}
@@ -10,27 +10,7 @@ use Rattle.machine.specs.declared.entry.Event.TheVariants.{Wake}
 use Rattle.machine.specs.declared.entry.Entry.{Entry}
 use Rattle.machine.specs.Pieces.{no_piece}
 use Rattle.machine.specs.Events.{moved_in, moved, GoodPhase, GoodEntry}
-use Rattle.machine.specs.Views.{blank, piece_at, piece_of, pieces_of, task_of, left_of, progress_of, works}
-use Rattle.machine.proofs.Keys.{take_set}
-
--- what a function of the entries tells of the first `count`
-
-abbrev pub seen : {X : Type 0} → (Entry → X) → ℕ → List Entry → List X
-seen f count es = map f (take count es)
-
-module _ {X : Type 0} (f : Entry → X) (count : ℕ) (es : List Entry) (fits : count ≤ length es) where
-  pub seen_long : length (seen f count es) ≡ count
-  seen_long = length-map (take count es) f ∙ length-take-le count es fits
-
-  pub seen_at : (i : ℕ) (d : X) → i < count → get_or (seen f count es) i d ≡ f (get_or es i blank)
-  seen_at i d l = get_or-map f (take count es) i blank d (omega (arith, length-take-le count es fits)) ∙ ap f (get_or-take count es i blank l)
-
-  pub seen_set : (i : ℕ) (e : Entry) → seen f count (set es i e) ≡ set (seen f count es) i (f e)
-  seen_set i e = ap (map f) (take_set es count i e) ∙ map-set f (take count es) i e
-
-  -- where f tells the same, nothing changes
-  pub seen_kept : (i : ℕ) (e : Entry) → i < count → f e ≡ f (get_or es i blank) → seen f count (set es i e) ≡ seen f count es
-  seen_kept i e l q = seen_set i e ∙ ap (set (seen f count es) i) (q ∙ sym (seen_at i (f blank) l)) ∙ set-get_or (seen f count es) i (f blank)
+use Rattle.machine.specs.Views.{piece_at, piece_of, pieces_of, task_of, left_of, progress_of, works}
 
 -- an entry's progress
 
@@ -52,8 +32,8 @@ open_is e g = open_in e.task e.phase e.before g.0
 
 pub rests : (f : Phase) → works f ≡ false → f ≡ Rest
 rests Rest e = refl
-rests (Ready p r) e = let z : ◌≡◌ {A = ℕ} 0 1 = cc in absurd (omega arith)
-rests (Held p) e = let z : ◌≡◌ {A = ℕ} 0 1 = cc in absurd (omega arith)
+rests (Ready p r) e = absurd (cc)
+rests (Held p) e = absurd (cc)
 
 -- a wake
 

@@ -11,8 +11,8 @@ use Rattle.machine.specs.declared.table.Table.{Table}
 use Rattle.machine.specs.Events.{moved, released}
 use Rattle.machine.specs.Keys.{held_key, due_by}
 use Rattle.machine.specs.Views.{blank}
-use Rattle.machine.proofs.Keys.{keys, keys_at}
-use Rattle.machine.proofs.Tables.{released_none, key_in}
+use Rattle.machine.proofs.Keys.{seen, seen_at}
+use Rattle.machine.proofs.Tables.{released_none}
 
 -- what was released stays
 released_once : (at : ℕ) (e : Entry) (a : ℕ) → held_key e ≡ Some a → a ≤ at → released at (moved e Release) ≡ released at e
@@ -33,23 +33,22 @@ release_step at count es fs k a kl h l inv i il = ⊎_elim
     (cases_eq i k)
 
 pub none_due : (ks : List (Option ℕ)) (at : ℕ) (r : Option Pick) → least ks ≡ r → IfSome r (λ d. at < d.key) → (j : ℕ) → due_by at (get_or ks j None) ≡ false
-unfolding key_in
 none_due ks at r e h j = due (get_or ks j None) refl
   where
     late : (r : Option Pick) → IfSome r (λ d. at < d.key) → (o : Option Pick) → Chosen ks o → o ≡ r → (a : ℕ) → get_or ks j None ≡ Some a → at < a
-    late None h None c e a q = let n = c j in let z : ◌≡◌ {A = ℕ} 0 1 = cc in absurd (omega arith)
-    late None h (Some c) p e a q = let z : ◌≡◌ {A = ℕ} 0 1 = cc in absurd (omega arith)
-    late (Some x) h None c e a q = let z : ◌≡◌ {A = ℕ} 0 1 = cc in absurd (omega arith)
-    late (Some x) h (Some c) p e a q = let k : c.key ≡ x.key = ap key_in e in omega (arith, p.lowest j a q)
+    late None h None c e a q = let n = c j in absurd (cc)
+    late None h (Some c) p e a q = absurd (cc)
+    late (Some x) h None c e a q = absurd (cc)
+    late (Some x) h (Some c) p e a q = let k : c.key ≡ x.key = cc in omega (arith, p.lowest j a q)
 
     due : (o : Option ℕ) → get_or ks j None ≡ o → due_by at o ≡ false
     due None q = refl
     due (Some a) q = lt-leb a at (late r h (least ks) (chosen ks) e a q)
 
-pub release_done : (at count : ℕ) (es : List Entry) (t : Table) (r : Option Pick) → t.count ≡ count → least (keys held_key t.count t.entries) ≡ r → IfSome r (λ d. at < d.key)
+pub release_done : (at count : ℕ) (es : List Entry) (t : Table) (r : Option Pick) → t.count ≡ count → least (seen held_key t.count t.entries) ≡ r → IfSome r (λ d. at < d.key)
     → ((i : ℕ) → i < count → released at (get_or t.entries i blank) ≡ released at (get_or es i blank))
     → (i : ℕ) → i < count → get_or t.entries i blank ≡ released at (get_or es i blank)
 release_done at count es t r n e h inv i l =
     let e' = get_or t.entries i blank in
-    let none : due_by at (held_key e') ≡ false = ap (due_by at) (sym (keys_at held_key t.count t.entries (omega (arith, t.few, t.long)) i (omega arith))) ∙ none_due _ at r e h i in
+    let none : due_by at (held_key e') ≡ false = ap (due_by at) (sym (seen_at held_key t.count t.entries (omega (arith, t.few, t.long)) i None (omega arith))) ∙ none_due _ at r e h i in
     sym (cond-false (due_by at (held_key e')) (moved e' Release) e' none) ∙ inv i l

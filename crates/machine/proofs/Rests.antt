@@ -4,14 +4,10 @@ use Rattle.std.proofs.lemmas.List.{get_or-take, length-take-le}
 use Rattle.model.specs.Machine as model
 use Rattle.machine.specs.declared.entry.Entry.{Entry}
 use Rattle.model.specs.Machine.{Pick}
-use Rattle.machine.specs.declared.ready_line.ReadyLine.{ReadyLine}
-use Rattle.machine.specs.declared.held_line.HeldLine.{HeldLine}
 use Rattle.machine.specs.Events.{finished_in, GoodEntry}
-use Rattle.machine.specs.Keys.{ready_in, held_in, ready_key, held_key}
 use Rattle.machine.specs.Views.{blank, piece_in, ran_of, left_of, pieces_of, task_of, progress_of, Resting}
-use Rattle.machine.specs.Lines.{worth, tally, Holds, ready_pick, held_pick}
-use Rattle.machine.proofs.Keys.{keys, keys_long, keys_at}
-use Rattle.machine.proofs.Tables.{Kept}
+use Rattle.machine.specs.Lines.{worth, tally, Holds, picks}
+use Rattle.machine.proofs.Keys.{seen, seen_long, seen_at}
 
 pub rest_good : (e : Entry) → Resting e → GoodEntry e
 rest_good e r = (
@@ -27,18 +23,9 @@ tally_none f n [] h = refl
 tally_none f n (k ∷ ks) h = omega (arith, ap (worth f n) (h 0 (omega arith)), tally_none f (suc n) ks (λ j l. h (suc j) (omega arith)))
 
 -- an empty line holds no keys
-holds_none : {X : Type 0} (pick : X → Pick) (len : ℕ) (items : List X) (key : Entry → Option ℕ) (count : ℕ) (es : List Entry) → count ≤ length es → len ≡ 0 → ((i : ℕ) → i < count → key (get_or es i blank) ≡ None) → Holds (map pick (take len items)) (keys key count es)
+pub holds_none : {X : Type 0} (pick : X → Pick) (len : ℕ) (items : List X) (key : Entry → Option ℕ) (count : ℕ) (es : List Entry) → count ≤ length es → len ≡ 0 → ((i : ℕ) → i < count → key (get_or es i blank) ≡ None) → Holds (picks pick len items) (seen key count es)
 holds_none pick len items key count es fits e h f =
-    ap (λ n. sum_by f (map pick (take n items))) e ∙ sym (tally_none f 0 (keys key count es) (λ j l. let m : j < count = omega (arith, keys_long key count es fits) in keys_at key count es fits j m ∙ h j m))
-
-pub rest_kept : (count : ℕ) (es : List Entry) (ready : ReadyLine) (held : HeldLine) → length es ≡ 32 → count ≤ 32 → ready.len ≡ 0 → held.len ≡ 0 → ((i : ℕ) → i < count → Resting (get_or es i blank)) → Kept count es ready held
-rest_kept count es ready held long few r h rest = (
-  long,
-  few,
-  λ i l. rest_good (get_or es i blank) (rest i l),
-  holds_none ready_pick ready.len ready.items ready_key count es (omega arith) r (λ i l. let e = get_or es i blank in ap (ready_in e.task e.last) (rest i l).0),
-  holds_none held_pick held.len held.items held_key count es (omega arith) h (λ i l. let e = get_or es i blank in ap (held_in e.task e.last) (rest i l).0),
-)
+    ap (λ n. sum_by f (picks pick n items)) e ∙ sym (tally_none f 0 (seen key count es) (λ j l. let m : j < count = omega (arith, seen_long key count es fits) in seen_at key count es fits j None m ∙ h j m))
 
 asleep_is : (xs : List Entry) → ((i : ℕ) → i < length xs → progress_of (get_or xs i blank) ≡ model.at_rest) → map progress_of xs ≡ model.asleep (map task_of xs)
 asleep_is [] h = refl

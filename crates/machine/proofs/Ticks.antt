@@ -18,9 +18,10 @@ use Rattle.machine.specs.Keys.{ready_in, ready_key, held_key, due_by}
 use Rattle.machine.specs.Views.{blank, pieces_of, left_of, task_of, progress_of, piece_told}
 use Rattle.machine.specs.Calls.{tasks_of, state_of, miss_of, stepped}
 use Rattle.machine.proofs.Front.{picked_is}
-use Rattle.machine.proofs.Tables.{number_in, key_in, front_key}
+use Rattle.machine.proofs.Tables.{front_key}
 use Rattle.machine.proofs.Releases.{none_due}
-use Rattle.machine.proofs.Model.{pieces_long, seen, seen_long, seen_at}
+use Rattle.machine.proofs.Keys.{seen, seen_long, seen_at}
+use Rattle.machine.proofs.Model.{pieces_long}
 use Rattle.machine.proofs.Fronts.{come, late_keys, front_keys, map_by}
 use Rattle.machine.proofs.Wakes.{task_is, progress_is}
 use Rattle.machine.proofs.Ends.{view, task_stays}
@@ -50,10 +51,10 @@ seen_same f s t r keeps n h =
 -- the late piece is the front, if it is due
 
 come_some : (now : ℕ) (o : Option ℕ) (v : ℕ) → come now o ≡ Some v → o ≡ Some v
-come_some now None v e = let z : ◌≡◌ {A = ℕ} 0 1 = cc in absurd (omega arith)
+come_some now None v e = absurd (cc)
 come_some now (Some a) v e = ⊎_elim
     (λ t. sym (cond-true (leb a now) (Some a) None t) ∙ e)
-    (λ t. let n : None ≡ Some v = sym (cond-false (leb a now) (Some a) None t) ∙ e in let z : ◌≡◌ {A = ℕ} 0 1 = cc in absurd (omega arith))
+    (λ t. let n : None ≡ Some v = sym (cond-false (leb a now) (Some a) None t) ∙ e in absurd (cc))
     (cases_Bool (leb a now))
 
 come_none : (now : ℕ) (o : Option ℕ) → due_by now o ≡ false → come now o ≡ None
@@ -69,14 +70,13 @@ come_least_none : (now : ℕ) (ks : List (Option ℕ)) (r : Option Pick) → mod
 come_least_none now ks r e h = none_chosen (map (come now) ks) (λ j l. come_at now ks j ∙ come_none now (get_or ks j None) (none_due ks now r e h j))
 
 come_least_some : (now : ℕ) (ks : List (Option ℕ)) (x : Pick) → model.least ks ≡ Some x → x.key ≤ now → model.least (map (come now) ks) ≡ Some x
-unfolding number_in key_in
 come_least_some now ks x e l = by (model.least ks) (chosen ks) e
   where
     by : (o : Option model.Pick) → Chosen ks o → o ≡ Some x → model.least (map (come now) ks) ≡ Some x
-    by None c e = let z : ◌≡◌ {A = ℕ} 0 1 = cc in absurd (omega arith)
+    by None c e = absurd (cc)
     by (Some c) p e =
-        let n : c.number ≡ x.number = ap number_in e in
-        let k : c.key ≡ x.key = ap key_in e in
+        let n : c.number ≡ x.number = cc in
+        let k : c.key ≡ x.key = cc in
         picked_is (map (come now) ks) x
         (come_at now ks x.number ∙ ap (come now) (ap (λ j. get_or ks j None) (sym n) ∙ p.here ∙ ap (λ a. Some a) k) ∙ cond-true (leb x.key now) (Some x.key) None (le-leb x.key now l))
         (λ j v h. let q = come_some now (get_or ks j None) v (sym (come_at now ks j) ∙ h) in (omega (arith, p.lowest j v q), λ b. omega (arith, p.first j v q (omega arith))))
@@ -84,9 +84,9 @@ come_least_some now ks x e l = by (model.least ks) (chosen ks) e
 -- the piece
 
 piece_in_is : (n : Numbers) (last : Option ℕ) (f : Phase) (before a : ℕ) → GoodPhase n before f → ready_in n last f ≡ Some a → (length (pieces_of n) + 1) - length (left_of (pieces_of n) f) ≡ piece_told f
-piece_in_is n last Rest b a g h = let z : ◌≡◌ {A = ℕ} 0 1 = cc in absurd (omega arith)
+piece_in_is n last Rest b a g h = absurd (cc)
 piece_in_is n last (Ready p r) b a g h = omega (arith, pieces_long n, length-drop p (pieces_of n))
-piece_in_is n last (Held p) b a g h = let z : ◌≡◌ {A = ℕ} 0 1 = cc in absurd (omega arith)
+piece_in_is n last (Held p) b a g h = absurd (cc)
 
 pub piece_is : (e : Entry) (a : ℕ) → GoodEntry e → ready_key e ≡ Some a → model.piece_number (task_of e) (progress_of e) ≡ piece_told e.phase
 piece_is e a g h = piece_in_is e.task e.last e.phase e.before a g.0 h

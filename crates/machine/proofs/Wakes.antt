@@ -1,8 +1,8 @@
 -- What a wake does, by the core's entries.
 use Rattle.std.proofs.Common.{◌≡◌, ℕ, ◌<◌, ◌≤◌, true, false, ltb, List, map, length, get_or, take, set, is_some, Some, None, Option, sym, refl, ap, ◌∙◌, arith}
-use Rattle.std.proofs.lemmas.Bool.{lt-ltb, le-ltb}
+use Rattle.std.proofs.lemmas.Bool.{lt-ltb}
 use Rattle.std.proofs.lemmas.List.{get_or_default}
-use Rattle.model.specs.declared.refusal.Refusal.TheVariants.{NoTask, TooSoon, JobOpen}
+use Rattle.model.specs.declared.refusal.Refusal.TheVariants.{JobOpen}
 use Rattle.model.specs.Machine as model
 use Rattle.machine.specs.declared.entry.Entry.{Entry}
 use Rattle.machine.specs.declared.table.Table.{Table}
@@ -10,7 +10,8 @@ use Rattle.machine.specs.declared.answer.Miss.{Miss}
 use Rattle.machine.specs.declared.clock.Core.{Core}
 use Rattle.machine.specs.Views.{blank, task_of, progress_of, works}
 use Rattle.machine.specs.Calls.{tasks_of, state_of, miss_of, stepped}
-use Rattle.machine.proofs.Model.{seen_long, seen_at, seen_set, seen_kept, open_is}
+use Rattle.machine.proofs.Keys.{seen_long, seen_at, seen_set, seen_kept}
+use Rattle.machine.proofs.Model.{open_is}
 
 pub runs_is : (m : Option Miss) → false ≡ is_some m → model.stopped (miss_of m) ≡ false
 runs_is None e = refl
@@ -28,9 +29,6 @@ module _ (c : Core) where
   tasks_long = seen_long task_of c.table.count c.table.entries all_fit
 
   module _ (i : ℕ) where
-    pub no_task : c.table.count ≤ i → ltb i (length (tasks_of c)) ≡ false
-    no_task l = le-ltb i (length (tasks_of c)) (omega (arith, tasks_long))
-
     module _ (within : i < c.table.count) where
       pub a_task : ltb i (length (tasks_of c)) ≡ true
       a_task = lt-ltb i (length (tasks_of c)) (omega (arith, tasks_long))
@@ -43,25 +41,19 @@ module _ (c : Core) where
 
   -- one entry of the table moves
   module _ (t : Table) (i : ℕ) (e : Entry) (same : t.count ≡ c.table.count) (es : t.entries ≡ set c.table.entries i e) where
-    pub moved_progress : (g : model.Progress) → progress_of e ≡ g → map progress_of (take t.count t.entries) ≡ set (state_of c).progress i g
-    moved_progress g q = (λ k. map progress_of (take (same k) (es k))) ∙ seen_set progress_of c.table.count c.table.entries all_fit i e ∙ ap (set (state_of c).progress i) q
+    pub moved_progress : i < c.table.count → (g : model.Progress) → progress_of e ≡ g → map progress_of (take t.count t.entries) ≡ set (state_of c).progress i g
+    moved_progress l g q = (λ k. map progress_of (take (same k) (es k))) ∙ seen_set progress_of c.table.count c.table.entries all_fit i e l ∙ ap (set (state_of c).progress i) q
 
     pub moved_tasks : i < c.table.count → task_of e ≡ task_of (get_or c.table.entries i blank) → map task_of (take t.count t.entries) ≡ tasks_of c
     moved_tasks l q = (λ k. map task_of (take (same k) (es k))) ∙ seen_kept task_of c.table.count c.table.entries all_fit i e l q
 
   module _ (i : ℕ) (runs : model.stopped (miss_of c.miss) ≡ false) where
-    pub wake_no_task : c.table.count ≤ i → stepped (model.refused NoTask) (state_of c) ≡ model.do_wake (tasks_of c) (state_of c) i
-    wake_no_task l = let p = no_task i l in rw (runs, p)
-
     module _ (within : i < c.table.count) where
       soon_is : model.too_soon (model.task_at (tasks_of c) i) c.now (model.progress_at (state_of c) i).last ≡ model.too_soon (task_of (get_or c.table.entries i blank)) c.now (get_or c.table.entries i blank).last
       soon_is = λ k. model.too_soon (task_is i within k) c.now (progress_is i within k).last
 
       opens : model.is_open (model.progress_at (state_of c) i).left ≡ works (get_or c.table.entries i blank).phase
       opens = ap (λ (g : model.Progress). model.is_open g.left) (progress_is i within) ∙ open_is (get_or c.table.entries i blank) (c.table.good i within)
-
-      pub wake_too_soon : model.too_soon (task_of (get_or c.table.entries i blank)) c.now (get_or c.table.entries i blank).last ≡ true → stepped (model.refused TooSoon) (state_of c) ≡ model.do_wake (tasks_of c) (state_of c) i
-      wake_too_soon s = let p = a_task i within in let q = soon_is ∙ s in rw (runs, p, q)
 
       module _ (fine : model.too_soon (task_of (get_or c.table.entries i blank)) c.now (get_or c.table.entries i blank).last ≡ false) where
         pub wake_open : works (get_or c.table.entries i blank).phase ≡ true → stepped (model.refused JobOpen) (state_of c) ≡ model.do_wake (tasks_of c) (state_of c) i

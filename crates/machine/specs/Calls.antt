@@ -1,5 +1,5 @@
 -- The machine's core as the model sees it, and what its calls answer.
-use Rattle.std.specs.Prelude.{List, map, take, Some, None, Ok, Err, Option, Result}
+use Rattle.std.specs.Prelude.{◌≡◌, ℕ, List, map, take, Some, None, Ok, Err, Option, Result}
 use Rattle.model.specs.declared.refusal.Refusal.{Refusal}
 use Rattle.model.specs.Task as task
 use Rattle.model.specs.Machine as model
@@ -33,3 +33,7 @@ ticked (Err e) = model.refused e
 
 abbrev pub stepped : model.Answer → model.State → model.Step
 stepped a s = record { answer = a; after = s }
+
+-- a wake of task i is refused with e, and so is an end
+abbrev pub Refuses : Core → ℕ → Refusal → Type 0
+Refuses c i e = (stepped (model.refused e) (state_of c) ≡ model.do_wake (tasks_of c) (state_of c) i) × (stepped (model.refused e) (state_of c) ≡ model.do_end (tasks_of c) (state_of c) i)

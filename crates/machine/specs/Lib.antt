@@ -4,6 +4,8 @@ pub mod Views
 pub mod Keys
 pub mod Events
 pub mod Lines
+pub mod Readies
+pub mod Leads
 pub mod Calls
 pub mod Copies
 pub mod Opened

@@ -11,12 +11,6 @@ use Rattle.model.specs.Machine.{Pick}
 abbrev pub pick_before : Pick → Pick → Bool
 pick_before x y = pair_before x.key x.number y.key y.number
 
-abbrev pub ready_before : ReadyPiece → ReadyPiece → Bool
-ready_before x y = pair_before x.due x.task y.due y.task
-
-abbrev pub held_before : HeldPiece → HeldPiece → Bool
-held_before x y = pair_before x.ready x.task y.ready y.task
-
 -- a record by its task and the instant that ranks it
 abbrev pub ready_pick : ReadyPiece → Pick
 ready_pick x = record { number = x.task; key = x.due }
@@ -24,12 +18,9 @@ ready_pick x = record { number = x.task; key = x.due }
 abbrev pub held_pick : HeldPiece → Pick
 held_pick x = record { number = x.task; key = x.ready }
 
--- the records in the first n places
-abbrev pub ready_picks : ℕ → List ReadyPiece → List Pick
-ready_picks n xs = map ready_pick (take n xs)
-
-abbrev pub held_picks : ℕ → List HeldPiece → List Pick
-held_picks n xs = map held_pick (take n xs)
+-- the records in the first n places, by their picks
+abbrev pub picks : {X : Type 0} → (X → Pick) → ℕ → List X → List Pick
+picks pick n xs = map pick (take n xs)
 
 -- what task number i counts, by its key
 abbrev pub worth : (Pick → ℕ) → ℕ → Option ℕ → ℕ
@@ -54,3 +45,8 @@ Fronts xs (Some x) = First pick_before x xs × Has xs x
 abbrev pub Takes : List Pick → Option Pick → List Pick → Type 0
 Takes xs None ys = xs ≡ []
 Takes xs (Some x) ys = First pick_before x xs × ((f : Pick → ℕ) → sum_by f xs ≡ f x + sum_by f ys)
+
+-- with a key, the front of a line that held xs went and left ys; without one, the line is as it was
+abbrev pub Goes : Option ℕ → List Pick → List Pick → Type 0
+Goes None xs ys = ys ≡ xs
+Goes (Some a) xs ys = (o : Option Pick) × Takes xs o ys

@@ -1,53 +1,19 @@
 //! The calls of the machine's core.
-ghost use Rattle.std.specs.Prelude.{◌≡◌, ℕ, ◌<◌, ◌≤◌, map, take, slice_index_or};
-ghost use Rattle.machine.specs.Calls.{answered, miss_of, state_of, stepped, tasks_of, ticked};
-ghost use Rattle.machine.specs.Events.{GoodEntry};
-ghost use Rattle.machine.specs.Views.{Resting, blank, piece_in, piece_told, task_of, works};
-ghost use Rattle.model.specs.Machine.{do_end, do_tick, do_wake, later, opened, too_soon};
+ghost use Rattle.std.specs.Prelude.{◌≡◌, ℕ, ◌<◌, ◌≤◌, false, map, take, slice_index_or, MatchResult};
+ghost use Rattle.machine.specs.Calls.{answered, miss_of, state_of, stepped, tasks_of, ticked, Refuses};
+ghost use Rattle.machine.specs.Views.{Resting, blank, task_of};
+ghost use Rattle.model.specs.Machine.{do_end, do_tick, do_wake, later, opened, stopped};
 
 use crate::answer::{Miss, Ticked};
 use crate::clock::Core;
-use crate::entry::{Entry, Event, Phase};
+use crate::entry::{Entry, Event};
 use crate::table::Table;
 use model::refusal::Refusal;
 
 /// The last instant.
 const LAST: u64 = 1_000_000_000_000_000;
 
-/// Whether the spacing since the last wake is not over.
-fn soon(entry: Entry, at: u64) -> bool
-    requires { GoodEntry entry }
-    ensures { result ≡ too_soon (task_of entry) at entry.last }
-{
-    match entry.last {
-        Some(wake) => at < wake + entry.task.spacing,
-        None => false,
-    }
-}
-
-/// Whether a job is open.
-fn works(phase: Phase) -> bool
-    ensures { result ≡ works phase }
-{
-    match phase {
-        Phase::Rest => false,
-        Phase::Ready { piece: _, ran: _ } => true,
-        Phase::Held { piece: _ } => true,
-    }
-}
-
-/// The piece at work, counted from 1.
-fn at_work(phase: Phase) -> u64
-    requires { piece_in phase < 4 }
-    ensures { result ≡ piece_told phase }
-{
-    match phase {
-        Phase::Rest => 1,
-        Phase::Ready { piece, ran: _ } => piece as u64 + 1,
-        Phase::Held { piece } => piece as u64 + 1,
-    }
-}
-
+// The core has a field `now`, so clauses name the core itself `self.entry.now`.
 impl Core {
     /// The core at its first instant, its tasks at rest.
     pub(crate) fn resting(start: u64, count: usize, entries: [Entry; 32]) -> Core
@@ -76,9 +42,9 @@ impl Core {
         self.miss
     }
 
-    pub(crate) fn wake(&mut self, task: u64) -> Result<(), Refusal>
-        ensures did { stepped (answered result) (state_of self.new) ≡ do_wake (tasks_of self.old) (state_of self.old) task }
-        ensures tasks { tasks_of self.new ≡ tasks_of self.old }
+    /// The place of the task with this number, while the machine runs.
+    fn task(&self, task: u64) -> Result<usize, Refusal>
+        ensures { MatchResult result (λ i. (i ≡ task) × (i < self.entry.now.table.count) × (stopped (miss_of self.entry.now.miss) ≡ false)) (Refuses self.entry.now task) }
     {
         if self.miss.is_some() {
             return Err(Refusal::Stopped);
@@ -86,12 +52,19 @@ impl Core {
         if task >= self.table.count as u64 {
             return Err(Refusal::NoTask);
         }
-        let i = task as usize;
+        Ok(task as usize)
+    }
+
+    pub(crate) fn wake(&mut self, task: u64) -> Result<(), Refusal>
+        ensures did { stepped (answered result) (state_of self.new) ≡ do_wake (tasks_of self.old) (state_of self.old) task }
+        ensures tasks { tasks_of self.new ≡ tasks_of self.old }
+    {
+        let i = self.task(task)?;
         let entry = self.table.entries[i];
-        if soon(entry, self.now) {
+        if entry.soon(self.now) {
             return Err(Refusal::TooSoon);
         }
-        if works(entry.phase) {
+        if entry.phase.works() {
             return Err(Refusal::JobOpen);
         }
         self.table.start(i, self.now);
@@ -102,15 +75,8 @@ impl Core {
         ensures did { stepped (answered result) (state_of self.new) ≡ do_end (tasks_of self.old) (state_of self.old) task }
         ensures tasks { tasks_of self.new ≡ tasks_of self.old }
     {
-        if self.miss.is_some() {
-            return Err(Refusal::Stopped);
-        }
-        if task >= self.table.count as u64 {
-            return Err(Refusal::NoTask);
-        }
-        let Some(front) = self.table.front() else {
-            return Err(Refusal::NotFront);
-        };
+        self.task(task)?;
+        let front = self.table.front().ok_or(Refusal::NotFront)?;
         if front.task != task {
             return Err(Refusal::NotFront);
         }
@@ -146,7 +112,7 @@ impl Core {
         };
         let task = front.task;
         let entry = self.table.entries[task as usize];
-        let piece = at_work(entry.phase);
+        let piece = entry.phase.at_work();
         if front.due <= at {
             let miss = Miss {
                 task,

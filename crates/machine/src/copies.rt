@@ -9,46 +9,27 @@ use crate::numbers::Numbers;
 use crate::piece::Piece;
 use loads::load::Load;
 
-/// At most four pieces.
-#[derive(Clone, Copy)]
-pub struct Few {
-    pub count: usize,
-    pub pieces: [Piece; 4],
-}
-
-/// The pieces of a task.
-fn copy_pieces<L: Load>(load: &L, task: u64) -> Few
-    ensures { Copied (found (L.Load.tasks load.now) task) result.count result.pieces }
+/// How many pieces a task has, and the pieces, as `Numbers` holds them.
+fn copy_pieces<L: Load>(load: &L, task: u64) -> (usize, [Piece; 4])
+    ensures { Copied (found (L.Load.tasks load.now) task) result.0 result.1 }
 {
-    let mut pieces = [Piece {
-        ready: 0,
-        cap: 0,
-        due: 0,
-    }; 4];
-    let mut count: usize = 0;
-    while count < 4 {
-        let Some((ready, cap, due)) = load.piece(task, count as u64 + 1) else {
-            break;
+    let mut pieces = [Piece::default(); 4];
+    for (i, place) in pieces.iter_mut().enumerate() {
+        let Some((ready, cap, due)) = load.piece(task, i as u64 + 1) else {
+            return (i, pieces);
         };
-        pieces[count] = Piece { ready, cap, due };
-        count += 1;
+        *place = Piece { ready, cap, due };
     }
-    Few { count, pieces }
+    (4, pieces)
 }
 
 /// A task's numbers, if the load has it.
 pub(crate) fn copy_task<L: Load>(load: &L, task: u64) -> Option<Numbers>
     ensures { option_map numbers_task result ≡ option_map told_task (found (L.Load.tasks load.now) task) }
 {
-    let Some(spacing) = load.spacing(task) else {
-        return None;
-    };
-    let Some(total) = load.total(task) else {
-        return None;
-    };
-    let few = copy_pieces(load, task);
-    let count = few.count;
-    let pieces = few.pieces;
+    let spacing = load.spacing(task)?;
+    let total = load.total(task)?;
+    let (count, pieces) = copy_pieces(load, task);
     Some(Numbers {
         spacing,
         total,

@@ -12,6 +12,7 @@ use loads::load::Load;
 use model::refusal::Refusal;
 
 /// A machine that runs the jobs of a load's tasks. A lent load serves as well as an owned one.
+// Each call says that tasks and load stay: a fact of two states, which no type holds.
 #[derive(Drop)]
 pub struct Machine<L> {
     load: L,

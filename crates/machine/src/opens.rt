@@ -1,13 +1,10 @@
 //! The machine's core over the tasks of a load.
 ghost use Rattle.machine.specs.Opened.{Opened};
-ghost use Rattle.machine.specs.Views.{Resting};
-ghost use Rattle.std.specs.Prelude.{◌≡◌};
 
 use crate::clock::Core;
 use crate::copies::copy_task;
-use crate::entry::{Entry, Phase};
+use crate::entry::Entry;
 use crate::numbers::Numbers;
-use crate::piece::Piece;
 use loads::load::Load;
 use model::refusal::Refusal;
 
@@ -16,34 +13,6 @@ const TASKS: u64 = 32;
 
 /// The latest instant at which a machine starts.
 const LATEST_START: u64 = 999_999_999_700_000;
-
-/// A task at rest.
-fn at_rest(task: Numbers) -> Entry
-    ensures rest { Resting result }
-    ensures task { result.task ≡ task }
-{
-    Entry {
-        task,
-        last: None,
-        before: 0,
-        phase: Phase::Rest,
-    }
-}
-
-/// A lawful task, for the places that no task of the load takes.
-fn some_task() -> Numbers {
-    let pieces = [Piece {
-        ready: 0,
-        cap: 1,
-        due: 1,
-    }; 4];
-    Numbers {
-        spacing: 1,
-        total: 1,
-        count: 1,
-        pieces,
-    }
-}
 
 /// The core of a machine: the load's tasks, told and copied, at rest at the instant `start`.
 pub(crate) fn open_core<L: Load>(load: &L, start: u64) -> Result<Core, Refusal>
@@ -57,10 +26,10 @@ pub(crate) fn open_core<L: Load>(load: &L, start: u64) -> Result<Core, Refusal>
         return Err(Refusal::LateStart);
     }
     let n = count as usize;
-    let mut entries = [at_rest(some_task()); 32];
-    for i in 0..n {
+    let mut entries = [Entry::at_rest(Numbers::default()); 32];
+    for (i, entry) in entries[..n].iter_mut().enumerate() {
         if let Some(task) = copy_task(load, i as u64) {
-            entries[i] = at_rest(task);
+            *entry = Entry::at_rest(task);
         }
     }
     Ok(Core::resting(start, n, entries))

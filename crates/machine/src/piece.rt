@@ -1,7 +1,7 @@
 //! A piece of a task as its load tells it.
 
 /// Offsets count from the wake.
-#[derive(Clone, Copy)]
+#[derive(Clone, Copy, Default)]
 pub struct Piece {
     pub ready: u64,
     pub cap: u64,

@@ -1,5 +1,6 @@
 -- The proofs, by subject.
 pub mod Tests
+pub mod All
 pub mod Pieces
 pub mod Each
 pub mod Least

@@ -1,14 +1,13 @@
 -- The verdict and the machine agree.
-use Rattle.std.proofs.Common.{◌≡◌, ℕ, zero, suc, ◌*◌, ◌<◌, ◌≤◌, List, map, sym, ap, ◌∙◌, subst, arith}
-use lib.ListN.{length-map}
+use Rattle.std.proofs.Common.{◌≡◌, ℕ, ◌*◌, List, map, sym, ap, ◌∙◌, arith}
+use Rattle.std.proofs.lemmas.List.{length-map}
 use Rattle.std.specs.List.{AllByRecursion}
 use Rattle.model.specs.Task.{Task, AllLawful}
-use Rattle.model.specs.Demand.{demand_of_all}
 use Rattle.model.specs.Settled.{Settled, LawfulSettled, Even, equally, Order, joined}
 use Rattle.model.specs.Slow.{slow, slowed}
 use Rattle.model.specs.Verdict.{Verdict, accepted, overloaded, verdict_number, verdict}
 use Rattle.model.specs.Promise.{FirstExceeded, Agreement}
-use Rattle.model.proofs.Demand.Laws.{all_none}
+use Rattle.model.proofs.Demand.Laws.{from_one}
 use Rattle.model.proofs.Demand.Slow.{all_slow, round_slow, slowed_lawful}
 use Rattle.model.proofs.Demand.Equal.{all_twice, twice_length, twice_round, joined_twice, joined_lawful}
 use Rattle.model.proofs.Verdict.Means.{verdict_many, verdict_far, overloaded_means, many_means, far_means, accepted_means, accepted_fits, fits_accepted}
@@ -16,11 +15,7 @@ use Rattle.model.proofs.Safe.Holds.{holds}
 use Rattle.model.proofs.Overload.Misses.{can_miss}
 
 pub first_exceeded : (ks : List Task) → AllLawful ks → (t : ℕ) → verdict ks ≡ overloaded t → FirstExceeded ks t
-first_exceeded ks l t e = let m = overloaded_means ks t e in record { exceeded = m.exceeded; none_before = before m.none_before }
-  where
-    before : ((s : ℕ) → 1 ≤ s → s < t → demand_of_all ks s ≤ s) → (s : ℕ) → s < t → demand_of_all ks s ≤ s
-    before h zero b = omega (arith, all_none ks l)
-    before h (suc s) b = h (suc s) (omega arith) b
+first_exceeded ks l t e = let m = overloaded_means ks t e in record { exceeded = m.exceeded; none_before = from_one ks l t m.none_before }
 
 pub equal_splits_pass : (o : Order) (rows : List Settled) (others : List Task) → AllByRecursion LawfulSettled rows → AllByRecursion Even rows → AllLawful others → verdict (slowed 2 (joined o rows others)) ≡ accepted → verdict (joined o (map equally rows) others) ≡ accepted
 equal_splits_pass o rows others lr even lo e =
@@ -45,4 +40,4 @@ agreement ks l = record {
 }
 
 pub agreed : (ks : List Task) → AllLawful ks → (v : Verdict) → v ≡ verdict ks → Agreement ks v
-agreed ks l v e = subst (Agreement ks) (sym e) (agreement ks l)
+agreed ks l v e = rw e (agreement ks l)

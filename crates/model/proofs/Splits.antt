@@ -1,49 +1,42 @@
 -- Every offer of the splitters is lawful, and which one is number k.
-use Rattle.std.proofs.Common.{◌≡◌, ℕ, zero, suc, ◌+◌, ◌-◌, ◌*◌, ◌/◌, ◌<◌, ◌≤◌, min, map, length, Some, None, sym, refl, ap, ◌∙◌, add-mul, mul-le-mul_left, mul-lt-mul_of_pos_right, mul-add, arith}
+use Rattle.std.proofs.Common.{◌≡◌, ℕ, zero, suc, ◌+◌, ◌-◌, ◌*◌, ◌/◌, ◌<◌, ◌≤◌, min, List, length, get_or, Some, None, sym, refl, ap, ◌∙◌, add-mul, mul-le-mul_left, mul-lt-mul_of_pos_right, mul-add, arith}
 use Rattle.std.proofs.lemmas.Nat.{le-div, div_below}
-use lib.ListN.{length-map}
-use Rattle.std.specs.List.{slice_get, AllByRecursion}
+use Rattle.std.proofs.lemmas.List.{length-map, get_or-map}
+use Rattle.std.proofs.lemmas.List.Elements.{All-from_get_or, recursion_from_All}
+use Rattle.std.proofs.lemmas.List.FromFn.{length-map-range_with_len, get_or-map-range_with_len}
+use Rattle.std.proofs.lemmas.Option.{slice_get_read, slice_get_past}
+use Rattle.std.specs.List.{slice_get}
 use Rattle.model.specs.Rows.{From, LawfulOpen}
-use Rattle.model.specs.Splits.{LawfulOffers, short_has, half, down, up, equal_offers, proportional_offers, falling_offers, rising_offers}
+use Rattle.model.specs.Splits.{LawfulOffers, short_has, half, down, equal_offers, proportional_offers, falling_offers, rising_offers}
 use Rattle.model.proofs.Tests.{if_le}
 
--- offer number k
-nth_down : (f : ℕ → ℕ) (n k : ℕ) → k < n → slice_get (map f (down n)) k ≡ Some (f (n - k))
-nth_down f zero k h = absurd (omega arith)
-nth_down f (suc n) zero h = ap (λ m. Some (f m)) (omega arith)
-nth_down f (suc n) (suc k) h = nth_down f n k (omega arith) ∙ ap (λ m. Some (f m)) (omega arith)
-
-nth_down_past : (f : ℕ → ℕ) (n k : ℕ) → n ≤ k → slice_get (map f (down n)) k ≡ None
-nth_down_past f zero k h = refl
-nth_down_past f (suc n) zero h = absurd (omega arith)
-nth_down_past f (suc n) (suc k) h = nth_down_past f n k (omega arith)
-
-nth_up : (f : ℕ → ℕ) (low n k : ℕ) → k < n → slice_get (map f (up low n)) k ≡ Some (f (low + k))
-nth_up f low zero k h = absurd (omega arith)
-nth_up f low (suc n) zero h = ap (λ m. Some (f m)) (omega arith)
-nth_up f low (suc n) (suc k) h = nth_up f (low + 1) n k (omega arith) ∙ ap (λ m. Some (f m)) (omega arith)
-
-nth_up_past : (f : ℕ → ℕ) (low n k : ℕ) → n ≤ k → slice_get (map f (up low n)) k ≡ None
-nth_up_past f low zero k h = refl
-nth_up_past f low (suc n) zero h = absurd (omega arith)
-nth_up_past f low (suc n) (suc k) h = nth_up_past f (low + 1) n k (omega arith)
-
+-- n, n - 1, .. 1 by number
 length_down : (n : ℕ) → length (down n) ≡ n
 length_down zero = refl
 length_down (suc n) = ap suc (length_down n)
 
-length_up : (low n : ℕ) → length (up low n) ≡ n
-length_up low zero = refl
-length_up low (suc n) = ap suc (length_up (low + 1) n)
+down_at : (n i d : ℕ) → i < n → get_or (down n) i d ≡ n - i
+down_at zero i d h = absurd (omega arith)
+down_at (suc n) zero d h = omega arith
+down_at (suc n) (suc i) d h = omega (arith, down_at n i d (omega arith))
 
-module _ (P : ℕ → Type 0) (f : ℕ → ℕ) where
-  all_down : (n top : ℕ) → n ≤ top → ((m : ℕ) → 1 ≤ m → m ≤ top → P (f m)) → AllByRecursion P (map f (down n))
-  all_down zero top h p = tt
-  all_down (suc n) top h p = (p (suc n) (omega arith) h, all_down n top (omega arith) p)
+-- the offers: how many, and by number
+module _ (T C1 S C2 : ℕ) where
+  falling_length : length (falling_offers T C1 S C2) ≡ half T S
+  unfolding falling_offers
+  falling_length = length-map (down (half T S)) (short_has T C1 S C2) ∙ length_down (half T S)
 
-  all_up : (low n top : ℕ) → 1 ≤ low → low + n ≤ top + 1 → ((m : ℕ) → 1 ≤ m → m ≤ top → P (f m)) → AllByRecursion P (map f (up low n))
-  all_up low zero top l h p = tt
-  all_up low (suc n) top l h p = (p low l (omega arith), all_up (low + 1) n top (omega arith) (omega arith) p)
+  falling_is : (k d : ℕ) → k < half T S → get_or (falling_offers T C1 S C2) k d ≡ short_has T C1 S C2 (half T S - k)
+  unfolding falling_offers
+  falling_is k d l = get_or-map (short_has T C1 S C2) (down (half T S)) k 0 d (omega (arith, length_down)) ∙ ap (short_has T C1 S C2) (down_at (half T S) k 0 l)
+
+  rising_length : length (rising_offers T C1 S C2) ≡ half T S
+  unfolding rising_offers
+  rising_length = length-map-range_with_len (short_has T C1 S C2) 1 (half T S)
+
+  rising_is : (k d : ℕ) → k < half T S → get_or (rising_offers T C1 S C2) k d ≡ short_has T C1 S C2 (1 + k)
+  unfolding rising_offers
+  rising_is k d l = get_or-map-range_with_len (short_has T C1 S C2) 1 (half T S) k (1 + k) d l refl
 
 -- what the short piece can have
 module _ (T C1 S C2 : ℕ) (l : LawfulOpen T C1 S C2) where
@@ -53,19 +46,18 @@ module _ (T C1 S C2 : ℕ) (l : LawfulOpen T C1 S C2) where
   pub equal_lawful : LawfulOffers T S (equal_offers T C1 S C2)
   equal_lawful = (omega arith, (short_lawful (half T S) (omega arith) (omega arith), tt))
 
-  pub falling_lawful : LawfulOffers T S (falling_offers T C1 S C2)
-  unfolding falling_offers
-  falling_lawful = (
-    omega (arith, length-map (down (half T S)) (short_has T C1 S C2), length_down (half T S)),
-    all_down (λ D1. From 1 D1 (T - S - 1)) (short_has T C1 S C2) (half T S) (half T S) (omega arith) short_lawful,
+  -- a list of which each number is 1 to half
+  each_lawful : (xs : List ℕ) (g : ℕ → ℕ) → length xs ≡ half T S → ((i : ℕ) → i < half T S → (1 ≤ g i) × (g i ≤ half T S) × (get_or xs i 0 ≡ short_has T C1 S C2 (g i))) → LawfulOffers T S xs
+  each_lawful xs g e each = (
+    omega (arith, e),
+    recursion_from_All _ xs (All-from_get_or (λ D1. From 1 D1 (T - S - 1)) xs 0 (λ i b. let r = each i (omega (arith, e)) in rw r.2 (short_lawful (g i) r.0 r.1))),
   )
 
+  pub falling_lawful : LawfulOffers T S (falling_offers T C1 S C2)
+  falling_lawful = each_lawful _ (λ i. half T S - i) (falling_length T C1 S C2) (λ i b. (omega arith, omega arith, falling_is T C1 S C2 i 0 b))
+
   pub rising_lawful : LawfulOffers T S (rising_offers T C1 S C2)
-  unfolding rising_offers
-  rising_lawful = (
-    omega (arith, length-map (up 1 (half T S)) (short_has T C1 S C2), length_up 1 (half T S)),
-    all_up (λ D1. From 1 D1 (T - S - 1)) (short_has T C1 S C2) 1 (half T S) (half T S) (omega arith) (omega arith) short_lawful,
-  )
+  rising_lawful = each_lawful _ (λ i. 1 + i) (rising_length T C1 S C2) (λ i b. (omega arith, omega arith, rising_is T C1 S C2 i 0 b))
 
   -- the proportional offer lies between the lesser cost and half
   pub proportional_lawful : LawfulOffers T S (proportional_offers T C1 S C2)
@@ -85,17 +77,13 @@ module _ (T C1 S C2 : ℕ) (l : LawfulOpen T C1 S C2) where
 -- the offers as they are asked for
 module _ (T C1 S C2 k h : ℕ) (is : h ≡ half T S) where
   pub falling_at : (d : ℕ) → d ≡ short_has T C1 S C2 (h - k) → k < h → Some d ≡ slice_get (falling_offers T C1 S C2) k
-  unfolding falling_offers
-  falling_at d e l = ap Some (e ∙ ap (λ n. short_has T C1 S C2 (n - k)) is) ∙ sym (nth_down (short_has T C1 S C2) (half T S) k (omega (arith, is)))
+  falling_at d e l = sym (slice_get_read _ h k d (is ∙ sym (falling_length T C1 S C2)) l (e ∙ ap (λ n. short_has T C1 S C2 (n - k)) is ∙ sym (falling_is T C1 S C2 k d (omega (arith, is)))))
 
   pub falling_past : h ≤ k → None ≡ slice_get (falling_offers T C1 S C2) k
-  unfolding falling_offers
-  falling_past l = sym (nth_down_past (short_has T C1 S C2) (half T S) k (omega (arith, is)))
+  falling_past l = sym (slice_get_past _ k (omega (arith, is, falling_length)))
 
   pub rising_at : (d : ℕ) → d ≡ short_has T C1 S C2 (1 + k) → k < h → Some d ≡ slice_get (rising_offers T C1 S C2) k
-  unfolding rising_offers
-  rising_at d e l = ap Some e ∙ sym (nth_up (short_has T C1 S C2) 1 (half T S) k (omega (arith, is)))
+  rising_at d e l = sym (slice_get_read _ h k d (is ∙ sym (rising_length T C1 S C2)) l (e ∙ sym (rising_is T C1 S C2 k d (omega (arith, is)))))
 
   pub rising_past : h ≤ k → None ≡ slice_get (rising_offers T C1 S C2) k
-  unfolding rising_offers
-  rising_past l = sym (nth_up_past (short_has T C1 S C2) 1 (half T S) k (omega (arith, is)))
+  rising_past l = sym (slice_get_past _ k (omega (arith, is, rising_length)))

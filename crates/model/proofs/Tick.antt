@@ -1,6 +1,7 @@
 -- A tick is earliest deadline first.
-use Rattle.std.proofs.Common.{◌≡◌, ℕ, ◌^◌, Bool, true, cond, leb, List, [], ◌∷◌, map, get_or, Some, None, Option, sym, refl, ap, ◌∙◌, inl, inr, arith}
-use Rattle.std.proofs.lemmas.Bool.{cases_lt, cases_Bool, leb-true, le-leb, cond_both}
+use Rattle.std.proofs.Common.{◌≡◌, ℕ, ◌^◌, Bool, true, leb, List, [], ◌∷◌, map, get_or, Some, None, Option, sym, refl, ◌∙◌, inl, inr, arith}
+use Rattle.std.proofs.lemmas.Option.{cond_some}
+use Rattle.std.proofs.lemmas.Bool.{cases_lt, leb-true, le-leb, cond_both}
 use Rattle.model.specs.declared.refusal.Refusal.{Refusal}
 use Rattle.model.specs.Task.{Piece, Task}
 use Rattle.model.specs.Machine.{refused, State, Step, Pick, Chosen, since, due_if, ready_due, late_due, front, late, progress_at, stopped, runs, misses}
@@ -14,24 +15,21 @@ module _ (counts : ℕ → ℕ → Bool) (s : State) where
 
   keyed : (i d : ℕ) → Counted i d → due_if counts (progress_at s i).last (progress_at s i).left ≡ Some d
   unfolding Counted
-  keyed i d h = ap (due_if counts (progress_at s i).last) h.1.1 ∙ ap (λ b. cond b (Some (since (progress_at s i).last h.0.due)) None) h.2 ∙ ap Some h.3
+  keyed i d h = rw (h.1.1, h.2, h.3)
 
   counted : (i d : ℕ) → due_if counts (progress_at s i).last (progress_at s i).left ≡ Some d → Counted i d
   unfolding Counted
   counted i d e = go (progress_at s i).left refl e
     where
       go : (l : List Piece) → (progress_at s i).left ≡ l → due_if counts (progress_at s i).last l ≡ Some d → Counted i d
-      go [] is e = let z : ◌≡◌ {A = ℕ} 0 1 = cc in absurd (omega arith)
-      go (p ∷ rest) is e = elim (cases_Bool (counts (since (progress_at s i).last p.ready) (since (progress_at s i).last p.due))) [
-        | inl t ↦ let f : Some (since (progress_at s i).last p.due) ≡ Some d = sym (ap (λ b. cond b (Some (since (progress_at s i).last p.due)) None) t) ∙ e in let due : since (progress_at s i).last p.due ≡ d = cc in (p, (rest, is), t, due)
-        | inr t ↦ let f : None ≡ Some d = sym (ap (λ b. cond b (Some (since (progress_at s i).last p.due)) None) t) ∙ e in let z : ◌≡◌ {A = ℕ} 0 1 = cc in absurd (omega arith)
-      ]
+      go [] is e = cc
+      go (p ∷ rest) is e = let c = cond_some (counts (since (progress_at s i).last p.ready) (since (progress_at s i).last p.due)) (since (progress_at s i).last p.due) d e in (p, (rest, is), c.0, c.1)
 
   at_key : (i : ℕ) → get_or (map (λ g. due_if counts g.last g.left) s.progress) i None ≡ due_if counts (progress_at s i).last (progress_at s i).left
   at_key i = key_at (λ g. due_if counts g.last g.left) refl s.progress i
 
   none_counted : Chosen (map (λ g. due_if counts g.last g.left) s.progress) None → (j e : ℕ) → Counted j e → ⊥
-  none_counted h j e c = let f : None ≡ Some e = sym (h j) ∙ at_key j ∙ keyed j e c in let z : ◌≡◌ {A = ℕ} 0 1 = cc in omega arith
+  none_counted h j e c = cc (h j, at_key j, keyed j e c)
 
   earliest : (c : Pick) → Chosen (map (λ g. due_if counts g.last g.left) s.progress) (Some c) → EarliestBy Counted c.number
   earliest c h = (
@@ -68,37 +66,37 @@ module _ (s : State) where
 
   says_refused : (e : Refusal) → TickSays s (refused e)
   says_refused e = record {
-    runs_earliest = λ i p h. let z : ◌≡◌ {A = ℕ} 0 1 = cc in absurd (omega arith);
-    runs_in_time = λ i p h. let z : ◌≡◌ {A = ℕ} 0 1 = cc in absurd (omega arith);
-    idles_unready = λ h. let z : ◌≡◌ {A = ℕ} 0 1 = cc in absurd (omega arith);
-    idles_in_time = λ h. let z : ◌≡◌ {A = ℕ} 0 1 = cc in absurd (omega arith);
-    misses_earliest = λ i p x h. let z : ◌≡◌ {A = ℕ} 0 1 = cc in absurd (omega arith);
+    runs_earliest = λ i p h. cc;
+    runs_in_time = λ i p h. cc;
+    idles_unready = λ h. cc;
+    idles_in_time = λ h. cc;
+    misses_earliest = λ i p x h. cc;
   }
 
   says_runs : (ks : List Task) → ((j e : ℕ) → Late s j e → ⊥) → (o : Option Pick) → Chosen (map (ready_due s.now) s.progress) o → TickSays s (runs ks s o).answer
   says_runs ks in_time None h = record {
-    runs_earliest = λ i p e. let z : ◌≡◌ {A = ℕ} 0 1 = cc in absurd (omega arith);
+    runs_earliest = λ i p e. cc;
     runs_in_time = λ i p e. in_time;
     idles_unready = λ e j d r. none_counted (λ r d. leb r s.now) s h j d (ready_counted j d r);
     idles_in_time = λ e. in_time;
-    misses_earliest = λ i p x e. let z : ◌≡◌ {A = ℕ} 0 1 = cc in absurd (omega arith);
+    misses_earliest = λ i p x e. cc;
   }
   says_runs ks in_time (Some c) h = record {
     runs_earliest = λ i p e. let n : c.number ≡ i = cc in rw n at (earliest_map _ (Ready s) counted_ready ready_counted c.number (earliest (λ r d. leb r s.now) s c h));
     runs_in_time = λ i p e. in_time;
-    idles_unready = λ e. let z : ◌≡◌ {A = ℕ} 0 1 = cc in absurd (omega arith);
+    idles_unready = λ e. cc;
     idles_in_time = λ e. in_time;
-    misses_earliest = λ i p x e. let z : ◌≡◌ {A = ℕ} 0 1 = cc in absurd (omega arith);
+    misses_earliest = λ i p x e. cc;
   }
 
   says_misses : (ks : List Task) (o : Option Pick) → Chosen (map (late_due s.now) s.progress) o → TickSays s (misses ks s o).answer
   says_misses ks None h = says_runs ks (λ j e l. none_counted (λ r d. leb d s.now) s h j e (late_counted j e l)) (front s) (chosen (map (ready_due s.now) s.progress))
   says_misses ks (Some c) h = record {
-    runs_earliest = λ i p e. let z : ◌≡◌ {A = ℕ} 0 1 = cc in absurd (omega arith);
-    runs_in_time = λ i p e. let z : ◌≡◌ {A = ℕ} 0 1 = cc in absurd (omega arith);
-    idles_unready = λ e. let z : ◌≡◌ {A = ℕ} 0 1 = cc in absurd (omega arith);
-    idles_in_time = λ e. let z : ◌≡◌ {A = ℕ} 0 1 = cc in absurd (omega arith);
-    misses_earliest = λ i p x e. let n : c.number ≡ i = cc in let now : s.now ≡ x = cc in (rw n at (earliest_map _ (Late s) counted_late late_counted c.number (earliest (λ r d. leb d s.now) s c h)), sym now);
+    runs_earliest = λ i p e. cc;
+    runs_in_time = λ i p e. cc;
+    idles_unready = λ e. cc;
+    idles_in_time = λ e. cc;
+    misses_earliest = λ i p x e. let n : c.number ≡ i = cc in (rw n at (earliest_map _ (Late s) counted_late late_counted c.number (earliest (λ r d. leb d s.now) s c h)), cc);
   }
 
 pub tick_is_earliest_deadline_first : TickIsEarliestDeadlineFirst

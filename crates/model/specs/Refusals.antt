@@ -1,5 +1,6 @@
--- The number of each refusal.
-use Rattle.std.specs.Prelude.{ℕ}
+-- The number of each refusal, and the text that programs print of it.
+use Rattle.std.specs.Prelude.{ℕ, List, ◌++◌, codes}
+use Rattle.std.specs.Fmt.{decimal}
 use Rattle.model.specs.declared.refusal.Refusal.{Refusal}
 use Rattle.model.specs.declared.refusal.Refusal.TheVariants.{Spacing, Due, Cost, ZeroPart, TooLong, Split, Total, Factor, TooManyRows, TooManyTasks, NoRound, Overloaded, NoPlace, NoSplit, LateStart, Stopped, NoTask, TooSoon, JobOpen, LastInstant, NotFront, BadDigit, UnknownTag, WrongLength, LongText, OpenLine}
 
@@ -30,3 +31,6 @@ number UnknownTag = 23
 number WrongLength = 24
 number LongText = 25
 number OpenLine = 26
+
+abbrev pub refusal_text : Refusal → List ℕ
+refusal_text r = codes "refused by " ++ decimal (number r)

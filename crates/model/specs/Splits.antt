@@ -1,7 +1,7 @@
 -- Splits of an open row: the due offset of its first piece.
 -- T is the spacing, S the wait, and C1 and C2 are the costs before and after it.
 use Rattle.std.specs.Prelude.{ℕ, zero, suc, ◌+◌, ◌-◌, ◌*◌, ◌/◌, ◌≤◌, min, cond, List, [], ◌∷◌, map, length, nat_le}
-use Rattle.std.specs.List.{AllByRecursion}
+use Rattle.std.specs.List.{AllByRecursion, range_with_len}
 use Rattle.model.specs.Rows.{From}
 
 -- the split at which the short piece has n ticks of the T - S between its ready and its due instant;
@@ -28,11 +28,6 @@ abbrev pub down : ℕ → List ℕ
 down zero = []
 down (suc n) = suc n ∷ down n
 
--- n numbers from low on
-abbrev pub up : ℕ → ℕ → List ℕ
-up low zero = []
-up low (suc n) = low ∷ up (low + 1) n
-
 abbrev pub equal_offers : ℕ → ℕ → ℕ → ℕ → List ℕ
 equal_offers T C1 S C2 = equal_split T C1 S C2 ∷ []
 
@@ -45,4 +40,4 @@ falling_offers T C1 S C2 = map (short_has T C1 S C2) (down (half T S))
 
 -- the short piece has 1, and then ever more up to half
 unfoldable pub rising_offers : ℕ → ℕ → ℕ → ℕ → List ℕ
-rising_offers T C1 S C2 = map (short_has T C1 S C2) (up 1 (half T S))
+rising_offers T C1 S C2 = map (short_has T C1 S C2) (range_with_len 1 (half T S))

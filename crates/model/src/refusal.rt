@@ -1,9 +1,12 @@
 //! Refusals: why a call did nothing, with the number by which frames and documents name the reason.
-ghost use Rattle.std.specs.Prelude.{◌≡◌};
-ghost use Rattle.model.specs.Refusals.{number};
+ghost use Rattle.std.specs.Prelude.{◌≡◌, Some};
+ghost use Rattle.model.specs.Refusals.{number, refusal_text};
+
+use std::error::Error;
+use std::fmt;
 
 /// The first rule that a call's input breaks, with the values that the rule names.
-#[derive(Clone, Copy, Debug)]
+#[derive(Clone, Copy, Debug, PartialEq, Eq)]
 pub enum Refusal {
     /// The spacing is not 1 to 10,000.
     Spacing,
@@ -64,6 +67,7 @@ impl Refusal {
     pub fn number(self) -> u8
         ensures { result ≡ number self }
     {
+        // One match stands for the table of numbers, which no order of the variants may change.
         match self {
             Refusal::Spacing => 1,
             Refusal::Due => 2,
@@ -94,3 +98,15 @@ impl Refusal {
         }
     }
 }
+
+/// As programs print it: by its number.
+impl fmt::Display for Refusal {
+    ghost output = { λ r. Some (refusal_text r) };
+
+    fn fmt<W: fmt::Write>(&self, f: &mut fmt::Formatter<W>) -> fmt::Result {
+        let number = self.number();
+        write!(f, "refused by {number}")
+    }
+}
+
+impl Error for Refusal {}

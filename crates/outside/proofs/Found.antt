@@ -1,5 +1,5 @@
 -- Which task of a pen is found under a number, and its demand as it is told.
-use Rattle.std.proofs.Common.{◌≡◌, ℕ, ◌+◌, ◌-◌, ◌/◌, ◌<◌, ◌≤◌, Some, None, Option, sym, refl, ap, ◌∙◌, inl, inr, div-le_self, arith}
+use Rattle.std.proofs.Common.{◌≡◌, ℕ, ◌+◌, ◌-◌, ◌/◌, ◌≤◌, Some, None, sym, refl, ap, ◌∙◌, inl, inr, div-le_self, arith}
 use Rattle.std.proofs.lemmas.Nat.{mul-le}
 use Rattle.std.proofs.lemmas.Option.{slice_get_past}
 use Rattle.std.proofs.lemmas.Bool.{cases_lt}
@@ -44,7 +44,3 @@ module _ (a b : ℕ) (ok : From 1 a 20) (i t n : ℕ) (h : t ≤ 1000000) where
 
   pub nothing_told : 2 ≤ i → None ≡ demand_told (found (pen_tasks a b) i) t
   nothing_told e = ap (λ o. demand_told o t) (sym (found_nothing a b i e))
-
-pub far_told : (o : Option Task) (t : ℕ) → 1000000 < t → None ≡ demand_told o t
-far_told None t h = refl
-far_told (Some k) t h = grind (arith, nat_tests)

@@ -1,5 +1,5 @@
 -- The tasks of a pen: a clock of one piece, and strokes of three pieces.
-use Rattle.std.specs.Prelude.{ℕ, ◌+◌, List, [], ◌∷◌}
+use Rattle.std.specs.Prelude.{ℕ, ◌+◌, List, [], ◌∷◌, drop}
 use Rattle.std.proofs.Common.{arith}
 use Rattle.model.specs.Task.{Piece, Task, Lawful, AllLawful}
 use Rattle.model.specs.Rows.{From, piece, plain}
@@ -13,6 +13,10 @@ drawn c = piece 20 30 c ∷ stored c
 
 abbrev pub sampled : ℕ → List Piece
 sampled c = piece 0 10 c ∷ drawn c
+
+-- the pieces of a stroke from number k on, counted from 0
+abbrev pub pieces_from : ℕ → ℕ → List Piece
+pieces_from k c = drop k (sampled c)
 
 abbrev pub stroke_task : ℕ → Task
 stroke_task c = record { spacing = 60; total = c + (c + c); pieces = sampled c }

@@ -14,31 +14,25 @@ mod tests {
     use std::test::Fail;
 
     fn judged(clock: u64, stroke: u64) -> Result<(), Refusal> {
-        match Pen::new(clock, stroke) {
-            Some(pen) => judge(&pen),
-            None => Err(Refusal::Cost),
-        }
+        judge(&Pen::new(clock, stroke).ok_or(Refusal::Cost)?)
     }
 
-    fn number(verdict: Result<(), Refusal>) -> u8 {
-        match verdict {
-            Ok(()) => 0,
-            Err(refusal) => refusal.number(),
-        }
+    /// The number of a refusal, if there is one.
+    // By number: the table of numbers is tested too.
+    fn number(verdict: Result<(), Refusal>) -> Option<u8> {
+        Some(verdict.err()?.number())
     }
 
     #[test]
     fn a_pen_is_checked(rt: HostRuntime) {
-        assert_eq!(rt; number(judged(10, 5)), 0);
-        assert_eq!(rt; number(judged(16, 5)), 12);
-        assert_eq!(rt; number(judged(21, 5)), 3);
+        assert_eq!(rt; number(judged(10, 5)), None);
+        assert_eq!(rt; number(judged(16, 5)), Some(12));
+        assert_eq!(rt; number(judged(21, 5)), Some(3));
     }
 
     #[test]
     fn a_pen_is_asked(rt: HostRuntime) -> Result<(), Fail> {
-        let Some(pen) = Pen::new(2, 4) else {
-            return Err(Fail::new("no pen"));
-        };
+        let pen = Pen::new(2, 4).ok_or("no pen")?;
         assert_eq!(rt; pen.count(), 2);
         assert_eq!(rt; pen.round(), Some(60));
         assert_eq!(rt; pen.piece(1, 2), Some((20, 4, 30)));

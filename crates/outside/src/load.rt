@@ -1,9 +1,9 @@
 //! The pen as a load.
-ghost use Rattle.std.specs.Prelude.{◌≡◌};
 ghost use Rattle.outside.specs.Pen.{pen_tasks, pen_lawful};
 
 use crate::pen::Pen;
 use loads::load::Load;
+use model::length::Length;
 
 impl Load for Pen {
     ghost tasks = { λ p. pen_tasks p.clock p.stroke };
@@ -39,9 +39,7 @@ impl Load for Pen {
     }
 
     fn demand(&self, task: u64, length: u64) -> Option<u64> {
-        if length > 1_000_000 {
-            return None;
-        }
+        let length = Length::new(length)?;
         match task {
             0 => Some(self.clock_demand(length)),
             1 => Some(self.stroke_demand(length)),

@@ -1,9 +1,12 @@
 //! A pen on the glass: a clock, and strokes that are sampled, drawn and stored.
-ghost use Rattle.std.specs.Prelude.{◌≡◌, ◌≤◌, [], MatchOption};
+ghost use Rattle.std.specs.Prelude.{◌≡◌, ◌≤◌, List, ◌∷◌, MatchOption};
 ghost use Rattle.model.specs.Asked.{nth_piece};
 ghost use Rattle.model.specs.Demand.{caps_by, from_wake, from_piece, demand};
-ghost use Rattle.model.specs.Rows.{From, piece, plain_asks};
-ghost use Rattle.outside.specs.Pen.{clock_task, stroke_task, sampled, drawn, stored};
+ghost use Rattle.model.specs.Rows.{From, plain_asks};
+ghost use Rattle.model.specs.Task.{Piece};
+ghost use Rattle.outside.specs.Pen.{clock_task, stroke_task, pieces_from};
+
+use model::length::Length;
 
 /// What a clock tick costs, and what each of the three pieces of a stroke costs.
 #[derive(Clone, Copy)]
@@ -15,6 +18,7 @@ pub struct Pen {
 
 impl Pen {
     /// A pen, unless a cost is out of range.
+    // `new` and not `TryFrom`: two numbers are no other form of a pen.
     pub fn new(clock: u64, stroke: u64) -> Option<Pen>
         ensures { MatchOption result (From 1 clock 20 × From 1 stroke 5 → ⊥) (λ p. (p.clock ≡ clock) × (p.stroke ≡ stroke)) }
     {
@@ -56,91 +60,61 @@ impl Pen {
         }
     }
 
-    pub(crate) fn clock_demand(&self, length: u64) -> u64
-        requires { length ≤ 1000000 }
-        ensures { result ≡ plain_asks 20 20 self.now.clock length }
+    pub(crate) fn clock_demand(&self, length: Length) -> u64
+        ensures { result ≡ plain_asks 20 20 self.now.clock length.value }
     {
-        if length < 20 {
-            return 0;
-        }
-        self.clock * ((length - 20) / 20 + 1)
-    }
-
-    /// The caps due by the offset e, of the third piece, of the last two, and of all.
-    fn stored_by(&self, e: u64) -> u64
-        ensures value { result ≡ caps_by e (stored self.now.stroke) }
-        ensures top { result ≤ 5 }
-    {
-        if 60 <= e { self.stroke } else { 0 }
-    }
-
-    fn drawn_by(&self, e: u64) -> u64
-        ensures value { result ≡ caps_by e (drawn self.now.stroke) }
-        ensures top { result ≤ 10 }
-    {
-        let stored = self.stored_by(e);
-        if 30 <= e {
-            self.stroke + stored
-        } else {
-            stored
+        match length.checked_sub(20) {
+            Some(rest) => self.clock * (rest.value() / 20 + 1),
+            None => 0,
         }
     }
 
-    fn sampled_by(&self, e: u64) -> u64
-        ensures value { result ≡ caps_by e (sampled self.now.stroke) }
+    // Each of these promises the most that it answers, so that the sums above it fit: bounds of results, which no parameter's type holds.
+
+    /// The caps due by the offset e, of the pieces from number `first` on, counted from 0.
+    fn caps_by(&self, first: u64, e: u64) -> u64
+        ensures value { result ≡ caps_by e (pieces_from first self.now.stroke) }
         ensures top { result ≤ 15 }
     {
-        let drawn = self.drawn_by(e);
-        if 10 <= e { self.stroke + drawn } else { drawn }
+        let due: u64 = match e {
+            0..=9 => 0,
+            10..=29 => 1,
+            30..=59 => 2,
+            _ => 3,
+        };
+        due.saturating_sub(first) * self.stroke
     }
 
     /// Windows that begin at a wake.
-    fn from_wake(&self, length: u64) -> u64
-        requires { length ≤ 1000060 }
-        ensures value { result ≡ from_wake (stroke_task self.now.stroke) length }
+    fn from_wake(&self, length: Length) -> u64
+        ensures value { result ≡ from_wake (stroke_task self.now.stroke) length.value }
         ensures top { result ≤ 15000915 }
     {
+        let length = length.value();
         let total = 3 * self.stroke;
-        length / 60 * total + total.min(self.sampled_by(length % 60))
+        length / 60 * total + total.min(self.caps_by(0, length % 60))
     }
 
-    /// Windows that begin where the second piece is ready.
-    fn from_drawing(&self, length: u64) -> u64
-        requires { length ≤ 1000000 }
-        ensures value { result ≡ from_piece (stroke_task self.now.stroke) (piece 20 30 self.now.stroke) (stored self.now.stroke) length }
+    /// Windows that begin where the piece of number `first` is ready. The pieces are ready 20 apart.
+    fn from_later(&self, first: u64, length: Length) -> u64
+        requires { first ≤ 2 }
+        ensures value { (p : Piece) (ps : List Piece) → pieces_from first self.now.stroke ≡ p ∷ ps → result ≡ from_piece (stroke_task self.now.stroke) p ps length.value }
         ensures top { result ≤ 15000930 }
     {
         let total = 3 * self.stroke;
-        let end = 20 + length;
-        if end < 60 {
-            total.min(self.drawn_by(end))
-        } else {
-            total.min(self.drawn_by(60)) + self.from_wake(end - 60)
-        }
-    }
-
-    /// Windows that begin where the third piece is ready.
-    fn from_storing(&self, length: u64) -> u64
-        requires { length ≤ 1000000 }
-        ensures value { result ≡ from_piece (stroke_task self.now.stroke) (piece 40 60 self.now.stroke) [] length }
-        ensures top { result ≤ 15000930 }
-    {
-        let total = 3 * self.stroke;
-        let end = 40 + length;
-        if end < 60 {
-            total.min(self.stored_by(end))
-        } else {
-            total.min(self.stored_by(60)) + self.from_wake(end - 60)
+        let ready = 20 * first;
+        match length.checked_sub(60 - ready) {
+            Some(rest) => total.min(self.caps_by(first, 60)) + self.from_wake(rest),
+            None => total.min(self.caps_by(first, ready + length.value())),
         }
     }
 
     /// Windows that begin anywhere.
-    pub(crate) fn stroke_demand(&self, length: u64) -> u64
-        requires { length ≤ 1000000 }
-        ensures value { result ≡ demand (stroke_task self.now.stroke) length }
+    pub(crate) fn stroke_demand(&self, length: Length) -> u64
+        ensures value { result ≡ demand (stroke_task self.now.stroke) length.value }
         ensures top { result ≤ 15000930 }
     {
-        let later = self.from_drawing(length).max(self.from_storing(length));
+        let later = self.from_later(1, length).max(self.from_later(2, length));
         self.from_wake(length).max(later)
     }
 }

@@ -10,6 +10,7 @@ pub trait Ranked: Sized {
     ghost total: { Total earlier };
 
     /// Whether this record is before the other.
+    // Not provided over `Ord`: that would ask for `Ord` too of whoever implements the trait.
     fn before(&self, other: &Self) -> bool
         ensures { result ≡ earlier self.now other.now };
 }

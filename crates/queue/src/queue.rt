@@ -1,5 +1,5 @@
 //! A queue over lent places.
-ghost use Rattle.std.specs.Prelude.{◌≡◌, min, length, take};
+ghost use Rattle.std.specs.Prelude.{◌≡◌, ◌+◌, ◌-◌, ◌<◌, min, length, take, OnErr, OnOk, OnSome};
 ghost use Rattle.queue.specs.Held.{GivesFirst, Heaped, Peeked, Put, Taken};
 
 use crate::order::Ranked;
@@ -7,20 +7,48 @@ use crate::sift::{put_into, take_from};
 use model::refusal::Refusal;
 
 /// The record at the front of the queue that a queue left in the first `len` of these places.
+// Places and length are two parameters: who keeps them holds them in a struct of his own.
 pub fn front_of<R: Ranked + Copy>(items: &[R], len: usize) -> Option<R>
     ensures held { Peeked (take len items.now) result }
     ensures first { Heaped R.Ranked.earlier items.now len → GivesFirst R.Ranked.earlier (take len items.now) result }
 {
     let n = len.min(items.len());
+    items[..n].first().copied()
+}
+
+/// Puts a record beside those that a queue left in the first `len` of these places, if there is a free place.
+pub fn put_beside<R: Ranked + Copy>(items: &mut [R], len: usize, x: R) -> Result<(), Refusal>
+    ensures held { Put (length items.old) (take len items.old) x result (take (len + 1) items.new) }
+    ensures sound { OnOk result (Heaped R.Ranked.earlier items.old len → Heaped R.Ranked.earlier items.new (len + 1)) }
+    ensures kept { OnErr result (items.new ≡ items.old) }
+    ensures places { length items.new ≡ length items.old }
+{
+    if len >= items.len() {
+        return Err(Refusal::NoPlace);
+    }
+    put_into(items, len, x);
+    Ok(())
+}
+
+/// Takes the record at the front of the queue that a queue left in the first `len` of these places; the others stay in one place less.
+pub fn take_first<R: Ranked + Copy>(items: &mut [R], len: usize) -> Option<R>
+    ensures held { Taken (take len items.old) result (take (min len (length items.old) - 1) items.new) }
+    ensures some { OnSome result (0 < min len (length items.old)) }
+    ensures first { Heaped R.Ranked.earlier items.old len → GivesFirst R.Ranked.earlier (take len items.old) result }
+    ensures sound { Heaped R.Ranked.earlier items.old len → Heaped R.Ranked.earlier items.new (min len (length items.old) - 1) }
+    ensures places { length items.new ≡ length items.old }
+{
+    let n = len.min(items.len());
     if n == 0 {
         return None;
     }
-    Some(items[0])
+    Some(take_from(items, n))
 }
 
 /// A queue over lent places, of which the first `len` hold its records (all of them, where `len` is more).
 ///
 /// What it gives out is before all different ones if the records are heaped, as they are in a new queue and after each call.
+// The places are lent, so the length stands beside them. `over` takes any length: no invariant ties the two.
 #[derive(Drop)]
 pub struct Queue<'a, R> {
     items: &'a mut [R],
@@ -69,12 +97,8 @@ impl<'a, R: Ranked + Copy> Queue<'a, R> {
         ensures lender { self.new.items.ghost_name ≡ self.old.items.ghost_name }
         ensures places { length self.new.items.now ≡ length self.old.items.now }
     {
-        let n = self.len();
-        if n == self.items.len() {
-            return Err(Refusal::NoPlace);
-        }
-        put_into(self.items, n, x);
-        self.len = n + 1;
+        put_beside(self.items, self.len, x)?;
+        self.len += 1;
         Ok(())
     }
 
@@ -87,10 +111,7 @@ impl<'a, R: Ranked + Copy> Queue<'a, R> {
         ensures places { length self.new.items.now ≡ length self.old.items.now }
     {
         let n = self.len();
-        if n == 0 {
-            return None;
-        }
-        let first = take_from(self.items, n);
+        let first = take_first(self.items, n)?;
         self.len = n - 1;
         Some(first)
     }

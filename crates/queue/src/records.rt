@@ -4,8 +4,10 @@ ghost use Rattle.model.specs.Order.{pair_before};
 
 use crate::order::Ranked;
 
+// Three types and not one of two numbers: each names its own instants, and a held piece is no ready one.
+
 /// A ready piece: by its due instant, then by its task's number.
-#[derive(Clone, Copy, Debug)]
+#[derive(Clone, Copy, Debug, Default, PartialEq, Eq, PartialOrd, Ord)]
 pub struct ReadyPiece {
     pub due: u64,
     pub task: u64,
@@ -17,12 +19,12 @@ impl Ranked for ReadyPiece {
     ghost total = { pairs_total (λ x. x.due) (λ x. x.task) (λ a b. record { due = a; task = b }) (λ x k. x) };
 
     fn before(&self, other: &ReadyPiece) -> bool {
-        self.due < other.due || self.due == other.due && self.task < other.task
+        self < other
     }
 }
 
 /// A held piece: by its ready instant, then by its task's number.
-#[derive(Clone, Copy, Debug)]
+#[derive(Clone, Copy, Debug, Default, PartialEq, Eq, PartialOrd, Ord)]
 pub struct HeldPiece {
     pub ready: u64,
     pub task: u64,
@@ -34,12 +36,12 @@ impl Ranked for HeldPiece {
     ghost total = { pairs_total (λ x. x.ready) (λ x. x.task) (λ a b. record { ready = a; task = b }) (λ x k. x) };
 
     fn before(&self, other: &HeldPiece) -> bool {
-        self.ready < other.ready || self.ready == other.ready && self.task < other.task
+        self < other
     }
 }
 
 /// An open row: by its spacing less its wait, then by its position in the caller's list.
-#[derive(Clone, Copy, Debug)]
+#[derive(Clone, Copy, Debug, Default, PartialEq, Eq, PartialOrd, Ord)]
 pub struct OpenRank {
     /// The spacing less the wait: the ticks that a split divides.
     pub divided: u64,
@@ -52,7 +54,6 @@ impl Ranked for OpenRank {
     ghost total = { pairs_total (λ x. x.divided) (λ x. x.position) (λ a b. record { divided = a; position = b }) (λ x k. x) };
 
     fn before(&self, other: &OpenRank) -> bool {
-        self.divided < other.divided
-            || self.divided == other.divided && self.position < other.position
+        self < other
     }
 }

@@ -1,6 +1,6 @@
 //! Bare rows: any numbers and a name, as tables and places hold them.
 ghost use Rattle.std.specs.Prelude.{◌≡◌, Some, None, MatchResult};
-ghost use Rattle.model.proofs.Rules.Keeps.{plain_task_lawful, settled_task_lawful, bounded_task_lawful};
+ghost use Rattle.model.proofs.Rules.Keeps.{plain_task_lawful, plain_is_least, settled_task_lawful, settled_is_least, bounded_task_lawful, bounded_is_least};
 ghost use Rattle.rows.specs.Bare.{plain_breaks, plain_own, plain_means, open_breaks, settled_breaks, settled_own, settled_means, bounded_breaks, bounded_own, bounded_means};
 
 use crate::bounded::Bounded;
@@ -11,7 +11,7 @@ use crate::settled::Settled;
 use model::refusal::Refusal;
 
 /// One piece: a spacing, a due offset and a cost.
-#[derive(Clone, Copy)]
+#[derive(Clone, Copy, Debug, Default, PartialEq, Eq)]
 pub struct PlainRow {
     pub name: u8,
     pub spacing: u64,
@@ -19,33 +19,26 @@ pub struct PlainRow {
     pub cost: u64,
 }
 
+// Each kind names its made row in `test` and `made`: a method for all would need a law that is longer than these lines.
 impl Kind for PlainRow {
     const TAG: u8 = 0x01;
 
+    ghost TAG = { 1 };
+
     const FIELDS: usize = 3;
 
-    ghost tagged = { 1 };
-
-    ghost fielded = { 3 };
+    ghost FIELDS = { 3 };
 
     ghost fault = { λ r. plain_breaks r };
 
     ghost title = { λ r. r.name };
-
-    fn kind_tag() -> u8 {
-        Self::TAG
-    }
-
-    fn kind_fields() -> usize {
-        Self::FIELDS
-    }
 
     fn name(&self) -> u8 {
         self.name
     }
 
     fn test(&self) -> Result<(), Refusal> {
-        Plain::new(self.name, self.spacing, self.due, self.cost)?;
+        Plain::try_from(*self)?;
         Ok(())
     }
 }
@@ -59,20 +52,15 @@ impl Bare for PlainRow {
 
     ghost lawful = { λ r. plain_task_lawful r.spacing r.due r.cost };
 
-    fn made(&self) -> Result<Plain, Refusal> {
-        Plain::new(self.name, self.spacing, self.due, self.cost)
-    }
+    ghost or_least = { λ r. plain_is_least r.spacing r.due r.cost };
 
-    fn kept(&self) -> Plain {
-        match self.made() {
-            Ok(row) => row,
-            Err(_) => Plain::least(self.name),
-        }
+    fn made(&self) -> Result<Plain, Refusal> {
+        Plain::try_from(*self)
     }
 }
 
 /// Two costs with a wait between them.
-#[derive(Clone, Copy)]
+#[derive(Clone, Copy, Debug, Default, PartialEq, Eq)]
 pub struct OpenRow {
     pub name: u8,
     pub spacing: u64,
@@ -84,45 +72,28 @@ pub struct OpenRow {
 impl Kind for OpenRow {
     const TAG: u8 = 0x02;
 
+    ghost TAG = { 2 };
+
     const FIELDS: usize = 4;
 
-    ghost tagged = { 2 };
-
-    ghost fielded = { 4 };
+    ghost FIELDS = { 4 };
 
     ghost fault = { λ r. open_breaks r };
 
     ghost title = { λ r. r.name };
-
-    fn kind_tag() -> u8 {
-        Self::TAG
-    }
-
-    fn kind_fields() -> usize {
-        Self::FIELDS
-    }
 
     fn name(&self) -> u8 {
         self.name
     }
 
     fn test(&self) -> Result<(), Refusal> {
-        self.made()?;
+        Open::try_from(*self)?;
         Ok(())
     }
 }
 
-impl OpenRow {
-    /// The made row, unless a rule is broken.
-    pub fn made(&self) -> Result<Open, Refusal>
-        ensures { MatchResult result (λ p. (open_breaks self.now ≡ None) × (p.name ≡ self.now.name) × (p.spacing ≡ self.now.spacing) × (p.first ≡ self.now.first) × (p.wait ≡ self.now.wait) × (p.second ≡ self.now.second)) (λ e. open_breaks self.now ≡ Some e) }
-    {
-        Open::new(self.name, self.spacing, self.first, self.wait, self.second)
-    }
-}
-
 /// An open row with a split.
-#[derive(Clone, Copy)]
+#[derive(Clone, Copy, Debug, Default, PartialEq, Eq)]
 pub struct SettledRow {
     pub name: u8,
     pub spacing: u64,
@@ -135,37 +106,22 @@ pub struct SettledRow {
 impl Kind for SettledRow {
     const TAG: u8 = 0x12;
 
+    ghost TAG = { 18 };
+
     const FIELDS: usize = 5;
 
-    ghost tagged = { 18 };
-
-    ghost fielded = { 5 };
+    ghost FIELDS = { 5 };
 
     ghost fault = { λ r. settled_breaks r };
 
     ghost title = { λ r. r.name };
-
-    fn kind_tag() -> u8 {
-        Self::TAG
-    }
-
-    fn kind_fields() -> usize {
-        Self::FIELDS
-    }
 
     fn name(&self) -> u8 {
         self.name
     }
 
     fn test(&self) -> Result<(), Refusal> {
-        Settled::new(
-            self.name,
-            self.spacing,
-            self.first,
-            self.wait,
-            self.second,
-            self.split,
-        )?;
+        Settled::try_from(*self)?;
         Ok(())
     }
 }
@@ -179,27 +135,15 @@ impl Bare for SettledRow {
 
     ghost lawful = { λ r. settled_task_lawful r.spacing r.first r.wait r.second r.split };
 
-    fn made(&self) -> Result<Settled, Refusal> {
-        Settled::new(
-            self.name,
-            self.spacing,
-            self.first,
-            self.wait,
-            self.second,
-            self.split,
-        )
-    }
+    ghost or_least = { λ r. settled_is_least r.spacing r.first r.wait r.second r.split };
 
-    fn kept(&self) -> Settled {
-        match self.made() {
-            Ok(row) => row,
-            Err(_) => Settled::least(self.name),
-        }
+    fn made(&self) -> Result<Settled, Refusal> {
+        Settled::try_from(*self)
     }
 }
 
 /// Two caps with a wait between them, a total and a split.
-#[derive(Clone, Copy)]
+#[derive(Clone, Copy, Debug, Default, PartialEq, Eq)]
 pub struct BoundedRow {
     pub name: u8,
     pub spacing: u64,
@@ -213,38 +157,22 @@ pub struct BoundedRow {
 impl Kind for BoundedRow {
     const TAG: u8 = 0x03;
 
+    ghost TAG = { 3 };
+
     const FIELDS: usize = 6;
 
-    ghost tagged = { 3 };
-
-    ghost fielded = { 6 };
+    ghost FIELDS = { 6 };
 
     ghost fault = { λ r. bounded_breaks r };
 
     ghost title = { λ r. r.name };
-
-    fn kind_tag() -> u8 {
-        Self::TAG
-    }
-
-    fn kind_fields() -> usize {
-        Self::FIELDS
-    }
 
     fn name(&self) -> u8 {
         self.name
     }
 
     fn test(&self) -> Result<(), Refusal> {
-        Bounded::new(
-            self.name,
-            self.spacing,
-            self.first,
-            self.second,
-            self.total,
-            self.wait,
-            self.split,
-        )?;
+        Bounded::try_from(*self)?;
         Ok(())
     }
 }
@@ -258,22 +186,9 @@ impl Bare for BoundedRow {
 
     ghost lawful = { λ r. bounded_task_lawful r.spacing r.first r.second r.total r.wait r.split };
 
-    fn made(&self) -> Result<Bounded, Refusal> {
-        Bounded::new(
-            self.name,
-            self.spacing,
-            self.first,
-            self.second,
-            self.total,
-            self.wait,
-            self.split,
-        )
-    }
+    ghost or_least = { λ r. bounded_is_least r.spacing r.first r.second r.total r.wait r.split };
 
-    fn kept(&self) -> Bounded {
-        match self.made() {
-            Ok(row) => row,
-            Err(_) => Bounded::least(self.name),
-        }
+    fn made(&self) -> Result<Bounded, Refusal> {
+        Bounded::try_from(*self)
     }
 }

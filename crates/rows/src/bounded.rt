@@ -1,103 +1,120 @@
-//! Bounded rows: two caps, and a total that may be below their sum.
+//! Bounded rows: two caps with a wait between them, and a total that may be below their sum.
 ghost use Rattle.std.specs.Prelude.{◌≡◌, Some, None, MatchResult};
-ghost use Rattle.model.specs.Rows.{paired};
-ghost use Rattle.model.specs.Rules.{bounded_fault};
 ghost use Rattle.model.proofs.Demand.Rows.{paired_lawful};
+ghost use Rattle.model.specs.Rows.{paired, LawfulPaired, paired_asks, first as first_asks};
+ghost use Rattle.rows.specs.Bare.{bounded_breaks};
 
+use crate::bare::BoundedRow;
 use crate::kind::Row;
-use crate::pieces::Pieces;
+use crate::rules::{test_parts, test_spacing, test_split};
+use model::length::Length;
 use model::refusal::Refusal;
 
 /// Two pieces with caps, and a total that may be below the sum of both.
 #[derive(Clone, Copy)]
 pub struct Bounded {
-    name: u8,
-    pieces: Pieces,
+    pub(crate) row: BoundedRow,
+    ghost ok: { LawfulPaired row.spacing row.wait row.split row.first row.second row.total },
+}
+
+impl TryFrom<BoundedRow> for Bounded {
+    type Error = Refusal;
+
+    ghost try_from_gives = { λ row made. MatchResult made (λ p. (bounded_breaks row ≡ None) × (p.row ≡ row)) (λ e. bounded_breaks row ≡ Some e) };
+
+    /// The row, unless a rule is broken.
+    fn try_from(row: BoundedRow) -> Result<Bounded, Refusal> {
+        test_spacing(row.spacing)?;
+        test_parts(row.first, row.wait, row.second)?;
+        if row.total <= row.first || row.total < row.second || row.total - row.first > row.second {
+            return Err(Refusal::Total);
+        }
+        if row.total > row.spacing || row.wait > row.spacing - row.total {
+            return Err(Refusal::TooLong);
+        }
+        test_split(row.spacing, row.wait, row.split)?;
+        Ok(Bounded { row })
+    }
 }
 
 impl Bounded {
-    /// A bounded row, unless a rule is broken.
-    pub fn new(
-        name: u8,
-        spacing: u64,
-        first: u64,
-        second: u64,
-        total: u64,
-        wait: u64,
-        split: u64,
-    ) -> Result<Bounded, Refusal>
-        ensures { MatchResult result (λ p. (bounded_fault spacing first second total wait split ≡ None) × (p.name ≡ name) × (p.pieces.spacing ≡ spacing) × (p.pieces.wait ≡ wait) × (p.pieces.split ≡ split) × (p.pieces.first ≡ first) × (p.pieces.second ≡ second) × (p.pieces.total ≡ total)) (λ e. bounded_fault spacing first second total wait split ≡ Some e) }
+    /// What windows that begin at a wake can ask.
+    fn from_wake(&self, length: Length) -> u64
+        ensures { result ≡ first_asks self.now.row.spacing self.now.row.split self.now.row.first self.now.row.total length.value }
     {
-        if spacing < 1 || spacing > 10_000 {
-            return Err(Refusal::Spacing);
-        }
-        if first < 1 || wait < 1 || second < 1 {
-            return Err(Refusal::ZeroPart);
-        }
-        if total <= first || total < second || total - first > second {
-            return Err(Refusal::Total);
-        }
-        if total > spacing || wait > spacing - total {
-            return Err(Refusal::TooLong);
-        }
-        if split < 1 || split > spacing - wait - 1 {
-            return Err(Refusal::Split);
-        }
-        Ok(Bounded {
-            name,
-            pieces: Pieces {
-                spacing,
-                wait,
-                split,
-                first,
-                second,
-                total,
-            },
-        })
+        let length = length.value();
+        let part = if length % self.row.spacing >= self.row.split {
+            self.row.first
+        } else {
+            0
+        };
+        length / self.row.spacing * self.row.total + part
     }
 
-    /// The least bounded row.
-    pub fn least(name: u8) -> Bounded
-        ensures { (result.name ≡ name) × (result.pieces.spacing ≡ 3) × (result.pieces.wait ≡ 1) × (result.pieces.split ≡ 1) × (result.pieces.first ≡ 1) × (result.pieces.second ≡ 1) × (result.pieces.total ≡ 2) }
+    /// What windows of a length can ask, those too that begin where a second piece is ready.
+    fn asked(&self, length: Length) -> u64
+        ensures { result ≡ paired_asks self.now.row.spacing self.now.row.wait self.now.row.split self.now.row.first self.now.row.second self.now.row.total length.value }
     {
-        Bounded {
-            name,
-            pieces: Pieces {
-                spacing: 3,
-                wait: 1,
-                split: 1,
-                first: 1,
-                second: 1,
-                total: 2,
-            },
+        let first = self.from_wake(length);
+        match length.checked_sub(self.row.spacing - self.row.wait - self.row.split) {
+            Some(rest) => first.max(self.row.second + self.from_wake(rest)),
+            None => first,
         }
     }
 }
 
 impl Row for Bounded {
-    ghost task = { λ p. paired p.pieces.spacing p.pieces.wait p.pieces.split p.pieces.first p.pieces.second p.pieces.total };
+    ghost task = { λ p. paired p.row.spacing p.row.wait p.row.split p.row.first p.row.second p.row.total };
 
-    ghost lawful = { λ p. paired_lawful p.pieces.spacing p.pieces.wait p.pieces.split p.pieces.first p.pieces.second p.pieces.total p.pieces.ok };
+    ghost lawful = { λ p. paired_lawful p.row.spacing p.row.wait p.row.split p.row.first p.row.second p.row.total p.ok };
 
-    ghost title = { λ p. p.name };
+    ghost title = { λ p. p.row.name };
+
+    ghost least_task = { paired 3 1 1 1 1 2 };
+
+    fn least(name: u8) -> Bounded {
+        Bounded {
+            row: BoundedRow {
+                name,
+                spacing: 3,
+                first: 1,
+                second: 1,
+                total: 2,
+                wait: 1,
+                split: 1,
+            },
+        }
+    }
 
     fn name(&self) -> u8 {
-        self.name
+        self.row.name
     }
 
     fn spacing(&self) -> u64 {
-        self.pieces.spacing
+        self.row.spacing
     }
 
     fn total(&self) -> u64 {
-        self.pieces.total
+        self.row.total
     }
 
     fn piece(&self, number: u64) -> Option<(u64, u64, u64)> {
-        self.pieces.piece(number)
+        let BoundedRow {
+            spacing,
+            first,
+            second,
+            wait,
+            split,
+            ..
+        } = self.row;
+        match number {
+            1 => Some((0, first, split)),
+            2 => Some((split + wait, second, spacing)),
+            _ => None,
+        }
     }
 
     fn demand(&self, length: u64) -> Option<u64> {
-        self.pieces.demand(length)
+        Some(self.asked(Length::new(length)?))
     }
 }

@@ -11,24 +11,18 @@ use model::refusal::Refusal;
 pub trait Kind {
     /// The first byte of a frame of this kind.
     const TAG: u8;
+
+    ghost TAG: { ℕ };
+
     /// The number of two-byte fields that follow the name.
     const FIELDS: usize;
 
-    /// The tag and the number of fields, for clauses.
-    ghost tagged: { ℕ };
-
-    ghost fielded: { ℕ };
+    ghost FIELDS: { ℕ };
 
     /// The first rule that the row breaks.
     ghost fault: { Self → Option Refusal };
 
     ghost title: { Self → ℕ };
-
-    fn kind_tag() -> u8
-        ensures { result ≡ tagged };
-
-    fn kind_fields() -> usize
-        ensures { result ≡ fielded };
 
     /// The row's name.
     fn name(&self) -> u8
@@ -46,6 +40,13 @@ pub trait Row {
     ghost lawful: { (r : Self) → Lawful (task r) };
 
     ghost title: { Self → ℕ };
+
+    /// The task of the least row of the kind.
+    ghost least_task: { Task };
+
+    /// The least row of the kind, under a name.
+    fn least(name: u8) -> Self
+        ensures { (task result ≡ least_task) × (title result ≡ name) };
 
     fn name(&self) -> u8
         ensures { result ≡ title self.now };
@@ -84,5 +85,14 @@ pub trait Bare: Kind {
 
     /// The made row, or the least row of the kind, under the same name.
     fn kept(&self) -> Self::Made
-        ensures { (Self.Made.Row.task result ≡ task self.now) × (Self.Made.Row.title result ≡ Self.Kind.title self.now) };
+        ensures { (Self.Made.Row.task result ≡ task self.now) × (Self.Made.Row.title result ≡ Self.Kind.title self.now) }
+    {
+        match self.made() {
+            Ok(row) => row,
+            Err(_) => Self::Made::least(self.name()),
+        }
+    }
+
+    /// A row that breaks a rule means the least row of its kind.
+    ghost or_least: { (r : Self) (e : Refusal) → Self.Kind.fault r ≡ Some e → task r ≡ Self.Made.Row.least_task };
 }

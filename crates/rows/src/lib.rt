@@ -5,6 +5,6 @@ pub mod bare;
 pub mod bounded;
 pub mod kind;
 pub mod open;
-mod pieces;
 pub mod plain;
+mod rules;
 pub mod settled;

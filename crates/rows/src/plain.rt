@@ -1,100 +1,92 @@
 //! Plain rows: one piece.
-ghost use Rattle.std.specs.Prelude.{◌≡◌, ◌≤◌, Some, None, MatchResult};
+ghost use Rattle.std.specs.Prelude.{◌≡◌, Some, None, MatchResult};
 ghost use Rattle.model.specs.Rows.{plain, LawfulPlain, plain_asks};
-ghost use Rattle.model.specs.Rules.{plain_fault};
 ghost use Rattle.model.proofs.Demand.Rows.{plain_lawful};
+ghost use Rattle.rows.specs.Bare.{plain_breaks};
 
+use crate::bare::PlainRow;
 use crate::kind::Row;
+use crate::rules::test_spacing;
+use model::length::Length;
 use model::refusal::Refusal;
 
 /// A plain row that keeps the rules.
 #[derive(Clone, Copy)]
 pub struct Plain {
-    name: u8,
-    spacing: u64,
-    due: u64,
-    cost: u64,
-    ghost ok: { LawfulPlain spacing due cost },
+    row: PlainRow,
+    ghost ok: { LawfulPlain row.spacing row.due row.cost },
+}
+
+impl TryFrom<PlainRow> for Plain {
+    type Error = Refusal;
+
+    ghost try_from_gives = { λ row made. MatchResult made (λ p. (plain_breaks row ≡ None) × (p.row ≡ row)) (λ e. plain_breaks row ≡ Some e) };
+
+    /// The row, unless a rule is broken.
+    fn try_from(row: PlainRow) -> Result<Plain, Refusal> {
+        test_spacing(row.spacing)?;
+        if row.due < 1 || row.due > row.spacing {
+            return Err(Refusal::Due);
+        }
+        if row.cost < 1 || row.cost > row.due {
+            return Err(Refusal::Cost);
+        }
+        Ok(Plain { row })
+    }
 }
 
 impl Plain {
-    /// A plain row, unless a rule is broken.
-    pub fn new(name: u8, spacing: u64, due: u64, cost: u64) -> Result<Plain, Refusal>
-        ensures { MatchResult result (λ p. (plain_fault spacing due cost ≡ None) × (p.name ≡ name) × (p.spacing ≡ spacing) × (p.due ≡ due) × (p.cost ≡ cost)) (λ e. plain_fault spacing due cost ≡ Some e) }
-    {
-        if spacing < 1 || spacing > 10_000 {
-            return Err(Refusal::Spacing);
-        }
-        if due < 1 || due > spacing {
-            return Err(Refusal::Due);
-        }
-        if cost < 1 || cost > due {
-            return Err(Refusal::Cost);
-        }
-        Ok(Plain {
-            name,
-            spacing,
-            due,
-            cost,
-        })
-    }
-
-    /// The least plain row.
-    pub fn least(name: u8) -> Plain
-        ensures { (result.name ≡ name) × (result.spacing ≡ 1) × (result.due ≡ 1) × (result.cost ≡ 1) }
-    {
-        Plain {
-            name,
-            spacing: 1,
-            due: 1,
-            cost: 1,
-        }
-    }
-
     /// The cost of the jobs that a window of a length has room for.
-    fn asked(&self, length: u64) -> u64
-        requires { length ≤ 1000000 }
-        ensures { result ≡ plain_asks self.now.spacing self.now.due self.now.cost length }
+    fn asked(&self, length: Length) -> u64
+        ensures { result ≡ plain_asks self.now.row.spacing self.now.row.due self.now.row.cost length.value }
     {
-        if length < self.due {
-            return 0;
+        match length.checked_sub(self.row.due) {
+            Some(rest) => (rest.value() / self.row.spacing + 1) * self.row.cost,
+            None => 0,
         }
-        ((length - self.due) / self.spacing + 1) * self.cost
     }
 }
 
 impl Row for Plain {
-    ghost task = { λ p. plain p.spacing p.due p.cost };
+    ghost task = { λ p. plain p.row.spacing p.row.due p.row.cost };
 
-    ghost lawful = { λ p. plain_lawful p.spacing p.due p.cost p.ok };
+    ghost lawful = { λ p. plain_lawful p.row.spacing p.row.due p.row.cost p.ok };
 
-    ghost title = { λ p. p.name };
+    ghost title = { λ p. p.row.name };
+
+    ghost least_task = { plain 1 1 1 };
+
+    fn least(name: u8) -> Plain {
+        Plain {
+            row: PlainRow {
+                name,
+                spacing: 1,
+                due: 1,
+                cost: 1,
+            },
+        }
+    }
 
     fn name(&self) -> u8 {
-        self.name
+        self.row.name
     }
 
     fn spacing(&self) -> u64 {
-        self.spacing
+        self.row.spacing
     }
 
     fn total(&self) -> u64 {
-        self.cost
+        self.row.cost
     }
 
     fn piece(&self, number: u64) -> Option<(u64, u64, u64)> {
-        if number == 1 {
-            Some((0, self.cost, self.due))
-        } else {
-            None
+        match number {
+            1 => Some((0, self.row.cost, self.row.due)),
+            _ => None,
         }
     }
 
     fn demand(&self, length: u64) -> Option<u64> {
-        if length > 1_000_000 {
-            None
-        } else {
-            Some(self.asked(length))
-        }
+        Some(self.asked(Length::new(length)?))
     }
 }

@@ -13,10 +13,9 @@ use Rattle.model.proofs.Demand.Rows.{paired_lawful}
 use Rattle.model.proofs.Round.Spacings.{spaced_lawful, round_push}
 use Rattle.model.proofs.Round.Told.{some_told, none_first}
 use Rattle.model.proofs.Rules.Keeps.{settled_keeps}
-use Rattle.rows.specs.Bare.{open_breaks, settled_breaks, settled_own}
+use Rattle.rows.specs.Bare.{open_breaks, settled_breaks, settled_own, with_split}
 use Rattle.rows.specs.declared.bare.OpenRow.{OpenRow}
 use Rattle.rows.specs.declared.bare.SettledRow.{SettledRow}
-use Rattle.seeker.specs.Sought.{with_split}
 use Rattle.seeker.specs.Refused.{split_somewhere, round_of_all}
 
 -- a list of rows breaks no rule exactly when none of them does

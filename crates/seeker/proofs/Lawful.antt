@@ -15,14 +15,14 @@ use Rattle.model.specs.Verdict.{Verdict, accepted, verdict}
 use Rattle.model.specs.declared.refusal.Refusal.TheVariants.{TooManyRows}
 use Rattle.model.proofs.Round.Spacings.{spaced_lawful, round_pos, round_common, round_least}
 use Rattle.model.proofs.Verdict.Means.{Means, fits, exceeds, many, far, means}
-use Rattle.rows.specs.Bare.{open_breaks, settled_breaks, settled_own}
+use Rattle.rows.specs.Bare.{open_breaks, settled_breaks, settled_own, with_split}
 use Rattle.rows.specs.declared.bare.OpenRow.{OpenRow}
 use Rattle.rows.specs.declared.bare.SettledRow.{SettledRow}
 use Rattle.seeker.specs.Judged.{if_table, judged}
 use Rattle.seeker.specs.Law.{IsOverloaded, AcceptedOrOverloaded, verdict_at, NonePasses, Kept, Settles, Law}
 use Rattle.seeker.specs.Queued.{queued}
 use Rattle.seeker.specs.Refused.{split_somewhere, round_of_all, unready, refused, ended}
-use Rattle.seeker.specs.Sought.{with_split, candidates, beside, passes, first_passing, Sought, go_on, sought, over}
+use Rattle.seeker.specs.Sought.{candidates, beside, passes, first_passing, Sought, go_on, sought, over}
 use Rattle.seeker.proofs.Begins.{Ready, ready, begun}
 use Rattle.seeker.proofs.Fits.{each_keeps, none_breaks, open_keeps, split_keeps, own_lawful, rows_lawful}
 use Rattle.seeker.proofs.Queues.{in_order, in_order_long, length_queued, all_queued}

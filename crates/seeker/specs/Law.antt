@@ -8,7 +8,8 @@ use Rattle.rows.specs.declared.bare.OpenRow.{OpenRow}
 use Rattle.rows.specs.declared.bare.SettledRow.{SettledRow}
 use Rattle.seeker.specs.Queued.{InOrder}
 use Rattle.seeker.specs.Refused.{ended}
-use Rattle.seeker.specs.Sought.{with_split, candidates, beside, over}
+use Rattle.rows.specs.Bare.{with_split}
+use Rattle.seeker.specs.Sought.{candidates, beside, over}
 
 abbrev pub IsOverloaded : Verdict → Type 0
 IsOverloaded v = (t : ℕ) × (v ≡ overloaded t)

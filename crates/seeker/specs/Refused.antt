@@ -6,11 +6,11 @@ use Rattle.model.specs.Round.{round}
 use Rattle.model.specs.Rules.{unless, either, first_fault}
 use Rattle.model.specs.Task.{Task}
 use Rattle.model.specs.Verdict.{Verdict, accepted, verdict}
-use Rattle.rows.specs.Bare.{open_breaks, settled_own}
+use Rattle.rows.specs.Bare.{open_breaks, settled_own, with_split}
 use Rattle.rows.specs.declared.bare.OpenRow.{OpenRow}
 use Rattle.rows.specs.declared.bare.SettledRow.{SettledRow}
 use Rattle.seeker.specs.Queued.{queued}
-use Rattle.seeker.specs.Sought.{with_split, passes, Sought, sought, over}
+use Rattle.seeker.specs.Sought.{passes, Sought, sought, over}
 
 -- an open row has the same spacing at every split: 1 stands for any
 abbrev pub split_somewhere : OpenRow → Task

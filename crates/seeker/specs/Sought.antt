@@ -2,13 +2,9 @@
 use Rattle.std.specs.Prelude.{ℕ, Bool, cond, List, [], ◌∷◌, ◌++◌, map, length, drop, is_ok, Some, None, Option}
 use Rattle.model.specs.Task.{Task}
 use Rattle.model.specs.Verdict.{verdict}
-use Rattle.rows.specs.Bare.{settled_own}
+use Rattle.rows.specs.Bare.{settled_own, with_split}
 use Rattle.rows.specs.declared.bare.OpenRow.{OpenRow}
 use Rattle.rows.specs.declared.bare.SettledRow.{SettledRow}
-
--- an open row with a split
-abbrev pub with_split : OpenRow → ℕ → SettledRow
-with_split o x = record { name = o.name; spacing = o.spacing; first = o.first; wait = o.wait; second = o.second; split = x }
 
 -- the candidates of a row, by the offers for its numbers
 abbrev pub candidates : (ℕ → ℕ → ℕ → ℕ → List ℕ) → OpenRow → List ℕ

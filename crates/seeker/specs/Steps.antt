@@ -1,12 +1,13 @@
 -- What the steps of a seek do, one row at a time.
-use Rattle.std.specs.Prelude.{ℕ, List, Some, None, Option, slice_set}
-use Rattle.rows.specs.declared.bare.OpenRow.{OpenRow}
+use Rattle.std.specs.Prelude.{ℕ, List, Some, None, Err, Option, slice_set}
+use Rattle.model.specs.declared.refusal.Refusal.TheVariants.{NoSplit}
+use Rattle.model.specs.Verdict.{Verdict, accepted}
 use Rattle.rows.specs.declared.bare.SettledRow.{SettledRow}
-use Rattle.rows.specs.declared.open.Open.{Open}
 
--- a made row as bare numbers
-abbrev pub bare : Open → OpenRow
-bare p = record { name = p.name; spacing = p.spacing; first = p.first; wait = p.wait; second = p.second }
+-- the answer for a row of this name, by the row kept, if any
+abbrev pub if_kept : ℕ → Option SettledRow → Verdict
+if_kept name None = Err (NoSplit name)
+if_kept name (Some r) = accepted
 
 -- the places once the row kept, if any, is in place k
 abbrev pub placed : Option SettledRow → List SettledRow → ℕ → List SettledRow

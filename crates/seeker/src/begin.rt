@@ -46,8 +46,6 @@ pub(crate) fn begin<L: Load>(rest: &L, rows: &[OpenRow], places: usize) -> Resul
         return Err(Refusal::NoPlace);
     }
     test_rows(rows)?;
-    if joint_round(rest, rows).is_none() {
-        return Err(Refusal::NoRound);
-    }
+    joint_round(rest, rows).ok_or(Refusal::NoRound)?;
     check(rest)
 }

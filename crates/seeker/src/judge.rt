@@ -10,6 +10,7 @@ use loads::table::Table;
 use rows::bare::SettledRow;
 
 /// Whoever decides whether settled rows pass.
+// A trait and no closure: that a closure always answers by the rows alone would be one clause more on each function.
 pub(crate) trait Judge {
     ghost accepts: { Self → List SettledRow → Bool };
 
@@ -27,13 +28,9 @@ impl<'a, L: Load> Judge for Beside<'a, L> {
     ghost accepts = { λ b rows. judged (L.Load.tasks b.rest.now) rows };
 
     fn passes(&self, rows: &[SettledRow]) -> bool {
-        match Table::new(rows) {
-            Ok(table) => check(&Pair {
-                first: self.rest,
-                second: table,
-            })
-            .is_ok(),
-            Err(_) => false,
-        }
+        let first = self.rest;
+        Table::new(rows)
+            .and_then(|second| check(&Pair { first, second }))
+            .is_ok()
     }
 }

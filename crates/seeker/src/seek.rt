@@ -1,10 +1,9 @@
 //! The seek: open rows settled beside a load.
-ghost use Rattle.std.specs.Prelude.{◌≡◌, ◌↔◌, [], length, take, None};
+ghost use Rattle.std.specs.Prelude.{◌≡◌, ◌↔◌, length, take, None};
 ghost use Rattle.model.specs.Verdict.{accepted, verdict};
 ghost use Rattle.seeker.specs.Law.{AcceptedOrOverloaded, Began, Law};
-ghost use Rattle.seeker.specs.Queued.{queued};
-ghost use Rattle.seeker.specs.Refused.{ended, refused, seek_answers, seek_leaves, unready};
-ghost use Rattle.seeker.specs.Sought.{beside, over, passes, sought};
+ghost use Rattle.seeker.specs.Refused.{refused, seek_answers, seek_leaves, unready};
+ghost use Rattle.seeker.specs.Sought.{beside};
 
 use crate::begin::begin;
 use crate::judge::Beside;
@@ -35,33 +34,11 @@ pub fn seek<S: Splitter, L: Load>(
     ensures alone { unready (L.Load.tasks rest.now) rows.now (length places.old) ≡ None → AcceptedOrOverloaded (verdict (L.Load.tasks rest.now)) }
 {
     begin(rest, rows, places.len())?;
-    let nothing = OpenRow {
-        name: 0,
-        spacing: 0,
-        first: 0,
-        wait: 0,
-        second: 0,
-    };
-    let mut ordered = [nothing; 32];
-    seek_in_order(splitter, rest, rows, &mut ordered[0..rows.len()], places)
-}
-
-/// Settles rows that are not refused, by way of places for as many rows in order.
-fn seek_in_order<S: Splitter, L: Load>(
-    splitter: &S,
-    rest: &L,
-    rows: &[OpenRow],
-    ordered: &mut [OpenRow],
-    places: &mut [SettledRow],
-) -> Result<(), Refusal>
-    requires begun { refused (L.Load.tasks rest.now) rows.now (length places.old) ≡ None }
-    requires same { length ordered.old ≡ length rows.now }
-    ensures answer { result ≡ ended (sought (passes (L.Load.tasks rest.now)) (S.Splitter.offers splitter.now) (queued rows.now) []).stuck }
-    ensures places { places.new ≡ over (sought (passes (L.Load.tasks rest.now)) (S.Splitter.offers splitter.now) (queued rows.now) []).settled places.old }
-{
+    // 32 places: there are no more rows, and memory is fixed.
+    let mut ordered = [OpenRow::default(); 32];
+    let ordered = &mut ordered[..rows.len()];
     order_rows(rows, ordered);
-    let judge = Beside { rest };
-    settle_rows(&judge, splitter, ordered, places)
+    settle_rows(&Beside { rest }, splitter, ordered, places)
 }
 
 #[cfg(test)]
@@ -82,8 +59,8 @@ mod tests {
         }
     }
 
-    // The number of the refusal, 0 for none, and the name and split in each of two places, which held (9, 7) before.
-    fn sought(due: u64, rows: &[OpenRow]) -> Result<(u8, (u8, u64), (u8, u64)), Refusal> {
+    // The number of the refusal, if any (the table of numbers is tested too), and the name and split in each of two places, which held (9, 7) before.
+    fn sought(due: u64, rows: &[OpenRow]) -> Result<(Option<u8>, (u8, u64), (u8, u64)), Refusal> {
         let plain = [PlainRow {
             name: 1,
             spacing: 5,
@@ -93,22 +70,13 @@ mod tests {
         let rest = Table::new(&plain)?;
         let held = SettledRow {
             name: 9,
-            spacing: 0,
-            first: 0,
-            wait: 0,
-            second: 0,
             split: 7,
+            ..SettledRow::default()
         };
         let mut places = [held; 2];
-        let number = match seek(&Falling, &rest, rows, &mut places) {
-            Ok(()) => 0,
-            Err(refusal) => refusal.number(),
-        };
-        Ok((
-            number,
-            (places[0].name, places[0].split),
-            (places[1].name, places[1].split),
-        ))
+        let refused = seek(&Falling, &rest, rows, &mut places).err();
+        let [first, second] = places.map(|row| (row.name, row.split));
+        Ok((refused.map(|refusal| refusal.number()), first, second))
     }
 
     #[test]
@@ -116,11 +84,14 @@ mod tests {
         let page = open(2, 10, 1, 8, 1);
         let other = open(3, 10, 1, 8, 1);
         let long = open(4, 20, 2, 4, 3);
-        assert_eq!(rt; sought(5, &[page])?, (0, (2, 1), (9, 7)));
-        assert_eq!(rt; sought(1, &[page])?, (14, (9, 7), (9, 7)));
-        assert_eq!(rt; sought(5, &[page, other])?, (14, (2, 1), (9, 7)));
-        assert_eq!(rt; sought(5, &[long, page])?, (0, (2, 1), (4, 8)));
-        assert_eq!(rt; sought(5, &[long, page, other])?, (13, (9, 7), (9, 7)));
+        assert_eq!(rt; sought(5, &[page])?, (None, (2, 1), (9, 7)));
+        assert_eq!(rt; sought(1, &[page])?, (Some(14), (9, 7), (9, 7)));
+        assert_eq!(rt; sought(5, &[page, other])?, (Some(14), (2, 1), (9, 7)));
+        assert_eq!(rt; sought(5, &[long, page])?, (None, (2, 1), (4, 8)));
+        assert_eq!(rt;
+            sought(5, &[long, page, other])?,
+            (Some(13), (9, 7), (9, 7))
+        );
         Ok(())
     }
 }

@@ -1,10 +1,10 @@
 //! Open rows settled one after another.
-ghost use Rattle.std.specs.Prelude.{◌≡◌, ◌<◌, ◌≤◌, [], length, take, is_some, None};
+ghost use Rattle.std.specs.Prelude.{◌≡◌, ◌<◌, ◌≤◌, [], length, take, None};
 ghost use Rattle.std.specs.List.{AllByRecursion};
-ghost use Rattle.rows.specs.Bare.{open_breaks};
+ghost use Rattle.rows.specs.Bare.{open_breaks, with_split};
 ghost use Rattle.seeker.specs.Refused.{ended};
-ghost use Rattle.seeker.specs.Sought.{candidates, first_passing, over, sought, with_split};
-ghost use Rattle.seeker.specs.Steps.{bare, placed};
+ghost use Rattle.seeker.specs.Sought.{candidates, first_passing, over, sought};
+ghost use Rattle.seeker.specs.Steps.{if_kept, placed};
 
 use crate::judge::Judge;
 use crate::trial::try_row;
@@ -14,8 +14,9 @@ use rows::open::Open;
 use splits::splitter::Splitter;
 
 /// The row with a split, as a place holds it.
+// A row of two values: there is no one value to convert.
 fn with_split(row: &Open, split: u64) -> SettledRow
-    ensures { result ≡ with_split (bare row.now) split }
+    ensures { result ≡ with_split row.now.row split }
 {
     SettledRow {
         name: row.name(),
@@ -27,26 +28,29 @@ fn with_split(row: &Open, split: u64) -> SettledRow
     }
 }
 
-/// Settles a row in place k with the first of its candidates that passes; whether there is one.
+/// Settles a row in place k with the first of its candidates that passes. Refused is a row that has none.
+// Judge and splitter are two parameters: a struct of both would only be taken apart again.
+// The candidates are asked for one by one: a `for` over `map_while` was tried, and what the kit makes of it here does not check.
 fn settle_row<J: Judge, S: Splitter>(
     judge: &J,
     splitter: &S,
     row: &Open,
     places: &mut [SettledRow],
     k: usize,
-) -> bool
+) -> Result<(), Refusal>
     requires { k < length places.old }
-    ensures kept { result ≡ is_some (first_passing (J.Judge.accepts judge.now) (take k places.old) (bare row.now) (candidates (S.Splitter.offers splitter.now) (bare row.now))) }
-    ensures places { places.new ≡ placed (first_passing (J.Judge.accepts judge.now) (take k places.old) (bare row.now) (candidates (S.Splitter.offers splitter.now) (bare row.now))) places.old k }
+    ensures kept { result ≡ if_kept row.now.row.name (first_passing (J.Judge.accepts judge.now) (take k places.old) row.now.row (candidates (S.Splitter.offers splitter.now) row.now.row)) }
+    ensures places { places.new ≡ placed (first_passing (J.Judge.accepts judge.now) (take k places.old) row.now.row (candidates (S.Splitter.offers splitter.now) row.now.row)) places.old k }
 {
-    let mut n = 0;
-    while let Some(split) = splitter.candidate(row, n) {
+    for n in 0.. {
+        let Some(split) = splitter.candidate(row, n) else {
+            break;
+        };
         if try_row(judge, places, k, with_split(row, split)) {
-            return true;
+            return Ok(());
         }
-        n += 1;
     }
-    false
+    Err(Refusal::NoSplit { name: row.name() })
 }
 
 /// Settles lawful rows first to last, row number k in place k.
@@ -62,10 +66,8 @@ pub(crate) fn settle_rows<J: Judge, S: Splitter>(
     ensures places { places.new ≡ over (sought (J.Judge.accepts judge.now) (S.Splitter.offers splitter.now) rows.now []).settled places.old }
 {
     for (k, row) in rows.iter().enumerate() {
-        let open = row.made()?;
-        if !settle_row(judge, splitter, &open, places, k) {
-            return Err(Refusal::NoSplit { name: row.name });
-        }
+        let open = Open::try_from(*row)?;
+        settle_row(judge, splitter, &open, places, k)?;
     }
     Ok(())
 }

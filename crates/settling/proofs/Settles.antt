@@ -10,12 +10,12 @@ use Rattle.model.specs.Splits.{falling_offers}
 use Rattle.model.specs.Task.{Task}
 use Rattle.model.specs.Verdict.{Verdict}
 use Rattle.model.proofs.Splits.{falling_lawful}
-use Rattle.rows.specs.Bare.{open_breaks, settled_breaks}
+use Rattle.rows.specs.Bare.{open_breaks, settled_breaks, with_split}
 use Rattle.rows.specs.declared.bare.OpenRow.{OpenRow}
 use Rattle.rows.specs.declared.bare.SettledRow.{SettledRow}
 use Rattle.seeker.specs.Queued.{queued}
 use Rattle.seeker.specs.Refused.{refused, answer, leaves, ended, seek_answers, seek_leaves}
-use Rattle.seeker.specs.Sought.{with_split, candidates, passes, first_passing, Sought, go_on, sought}
+use Rattle.seeker.specs.Sought.{candidates, passes, first_passing, Sought, go_on, sought}
 use Rattle.seeker.proofs.Begins.{begun}
 use Rattle.seeker.proofs.Fits.{each_keeps, open_keeps, split_keeps}
 use Rattle.seeker.proofs.Queues.{length_queued, all_queued}

@@ -1,9 +1,9 @@
 //! What is printed of a seek: settled rows, or the line of a refusal.
-ghost use Rattle.std.specs.Prelude.{◌≡◌, ◌++◌, IfOk, None, OnOk};
+ghost use Rattle.std.specs.Prelude.{◌≡◌, IfOk, None};
 ghost use Rattle.std.specs.List.{AllByRecursion};
 ghost use Rattle.rows.specs.Bare.{settled_breaks};
 ghost use Rattle.lines.specs.Lines.{written};
-ghost use Rattle.settling.specs.Settled.{refusal_text, settled_line, settled_lines};
+ghost use Rattle.settling.specs.Settled.{refusal_text, settled_lines};
 
 use lines::line::Line;
 use lines::write::{done_line, no_split_line, overload_line, refusal_line, row_line};
@@ -22,17 +22,6 @@ pub(crate) fn refused_line(refusal: Refusal) -> Line
     }
 }
 
-/// Puts the line of a row that keeps the rules behind a text.
-fn push_row(text: &mut Vec<u8>, row: &SettledRow) -> Result<(), AllocError>
-    requires { settled_breaks row.now ≡ None }
-    ensures { OnOk result (text.new.items ≡ text.old.items ++ settled_line row.now) }
-{
-    match row_line(row) {
-        Some(line) => text.extend_from_slice(line.as_slice()),
-        None => Ok(()),
-    }
-}
-
 /// The lines of rows that keep the rules, and the line that ends them.
 pub(crate) fn settled_lines(heap: Global, rows: &[SettledRow]) -> Result<Vec<u8>, AllocError>
     requires { AllByRecursion (λ r. settled_breaks r ≡ None) rows.now }
@@ -40,7 +29,9 @@ pub(crate) fn settled_lines(heap: Global, rows: &[SettledRow]) -> Result<Vec<u8>
 {
     let mut text = Vec::new(heap);
     for row in rows {
-        push_row(&mut text, row)?;
+        // A row that keeps the rules has a line.
+        let line = row_line(row).unwrap();
+        text.extend_from_slice(line.as_slice())?;
     }
     text.extend_from_slice(done_line().as_slice())?;
     Ok(text)

@@ -15,5 +15,5 @@ pub trait Splitter {
 
     /// Candidate number k, counted from 0, if there are so many.
     fn candidate(&self, row: &Open, k: u64) -> Option<u64>
-        ensures { result ≡ slice_get (offers self.now row.now.spacing row.now.first row.now.wait row.now.second) k };
+        ensures { result ≡ slice_get (offers self.now row.now.row.spacing row.now.row.first row.now.row.wait row.now.row.second) k };
 }

@@ -1,27 +1,36 @@
 //! The four splitters. Each says what the short piece has: the one that costs less, the first on a tie.
-ghost use Rattle.std.specs.Prelude.{◌≡◌};
+ghost use Rattle.std.specs.Prelude.{◌≡◌, ◌-◌};
 ghost use Rattle.model.specs.Splits.{short_has, half, equal_offers, proportional_offers, falling_offers, rising_offers};
 ghost use Rattle.model.proofs.Splits.{equal_lawful, proportional_lawful, falling_lawful, rising_lawful};
 
 use crate::splitter::Splitter;
 use rows::open::Open;
 
+// Four types with a test and a call each: they differ in just these.
+
+/// The room for both pieces: the spacing less the wait.
+fn room(row: &Open) -> u64
+    ensures { result ≡ row.now.row.spacing - row.now.row.wait }
+{
+    row.spacing() - row.wait()
+}
+
+/// Half of the room, rounded down.
+fn half_room(row: &Open) -> u64
+    ensures { result ≡ half row.now.row.spacing row.now.row.wait }
+{
+    room(row) / 2
+}
+
 /// The split at which the short piece has `ticks`.
 fn giving_short(row: &Open, ticks: u64) -> u64
-    ensures { result ≡ short_has row.now.spacing row.now.first row.now.wait row.now.second ticks }
+    ensures { result ≡ short_has row.now.row.spacing row.now.row.first row.now.row.wait row.now.row.second ticks }
 {
     if row.first() <= row.second() {
         ticks
     } else {
-        (row.spacing().saturating_sub(row.wait())).saturating_sub(ticks)
+        room(row).saturating_sub(ticks)
     }
-}
-
-/// Half of the spacing less the wait, rounded down.
-fn half_room(row: &Open) -> u64
-    ensures { result ≡ half row.now.spacing row.now.wait }
-{
-    row.spacing().saturating_sub(row.wait()) / 2
 }
 
 /// The short piece has half.
@@ -34,11 +43,7 @@ impl Splitter for Equal {
     ghost lawful = { λ _. equal_lawful };
 
     fn candidate(&self, row: &Open, k: u64) -> Option<u64> {
-        if k == 0 {
-            Some(giving_short(row, half_room(row)))
-        } else {
-            None
-        }
+        (k == 0).then(|| giving_short(row, half_room(row)))
     }
 }
 
@@ -52,13 +57,10 @@ impl Splitter for Proportional {
     ghost lawful = { λ _. proportional_lawful };
 
     fn candidate(&self, row: &Open, k: u64) -> Option<u64> {
-        if k > 0 {
-            return None;
-        }
         let first = row.first();
         let second = row.second();
-        let room = row.spacing().saturating_sub(row.wait());
-        Some(giving_short(row, room * first.min(second) / (first + second)))
+        let share = room(row) * first.min(second) / (first + second);
+        (k == 0).then(|| giving_short(row, share))
     }
 }
 
@@ -73,11 +75,7 @@ impl Splitter for Falling {
 
     fn candidate(&self, row: &Open, k: u64) -> Option<u64> {
         let half = half_room(row);
-        if k < half {
-            Some(giving_short(row, half - k))
-        } else {
-            None
-        }
+        (k < half).then(|| giving_short(row, half - k))
     }
 }
 
@@ -91,10 +89,6 @@ impl Splitter for Rising {
     ghost lawful = { λ _. rising_lawful };
 
     fn candidate(&self, row: &Open, k: u64) -> Option<u64> {
-        if k < half_room(row) {
-            Some(giving_short(row, 1 + k))
-        } else {
-            None
-        }
+        (k < half_room(row)).then(|| giving_short(row, 1 + k))
     }
 }

@@ -1,4 +1,6 @@
 //! Loads: the verdicts on tables, pairs and slowed loads, and the splits of open rows.
+use crate::machine_shown::paired;
+use crate::rows_shown::open;
 use checking::check;
 use loads::factor::Factor;
 use loads::load::Load;
@@ -35,30 +37,23 @@ fn settled(spacing: u64, first: u64, wait: u64, second: u64, split: u64) -> Sett
 fn show_verdict(rt: &HostRuntime, title: &str, verdict: Result<(), Refusal>) -> io::Result<()> {
     match verdict {
         Ok(()) => println!(rt; "{title}: accepted"),
-        Err(Refusal::Overloaded { length }) => println!(rt; "{title}: refused by 12 at {length}"),
-        Err(refusal) => {
-            let number = refusal.number();
-            println!(rt; "{title}: refused by {number}")
-        }
+        Err(refusal @ Refusal::Overloaded { length }) => println!(rt;
+            "{title}: {refusal} at {length}"
+        ),
+        Err(refusal) => println!(rt; "{title}: {refusal}"),
     }
 }
 
 /// The verdict on two tables, one after the other.
 fn judged(plains: &[PlainRow], settleds: &[SettledRow]) -> Result<(), Refusal> {
-    let first = Table::new(plains)?;
-    let second = Table::new(settleds)?;
-    check(&Pair { first, second })
+    check(&paired(plains, settleds)?)
 }
 
 /// The verdict on the same two tables on a slower machine.
 fn judged_slowed(plains: &[PlainRow], settleds: &[SettledRow], factor: u64) -> Result<(), Refusal> {
-    let first = Table::new(plains)?;
-    let second = Table::new(settleds)?;
+    let load = paired(plains, settleds)?;
     let factor = Factor::new(factor)?;
-    check(&Slowed {
-        load: Pair { first, second },
-        factor,
-    })
+    check(&Slowed { load, factor })
 }
 
 /// A slowed pair of a bounded table and a pair that is only lent.
@@ -67,12 +62,7 @@ fn judged_pile(
     settleds: &[SettledRow],
     boundeds: &[BoundedRow],
 ) -> Result<(), Refusal> {
-    let plain = Table::new(plains)?;
-    let settled = Table::new(settleds)?;
-    let inner = Pair {
-        first: plain,
-        second: settled,
-    };
+    let inner = paired(plains, settleds)?;
     let bounded = Table::new(boundeds)?;
     let factor = Factor::new(2)?;
     let outer = Slowed {
@@ -184,17 +174,13 @@ fn show_offers<S: Splitter>(
     splitter: &S,
     row: &Open,
 ) -> io::Result<()> {
-    let mut count = 0u64;
     print!(rt; "{title}:")?;
-    for k in 0..10_000 {
-        let Some(split) = splitter.candidate(row, k) else {
-            break;
-        };
-        if k < 3 {
-            print!(rt; " {split}")?;
-        }
-        count = k + 1;
+    for split in (0..3).map_while(|k| splitter.candidate(row, k)) {
+        print!(rt; " {split}")?;
     }
+    let count = (0..10_000)
+        .map_while(|k| splitter.candidate(row, k))
+        .count();
     println!(rt; " ({count} in all)")
 }
 
@@ -211,12 +197,12 @@ fn show_row_offers(rt: &HostRuntime, title: &str, made: Result<Open, Refusal>) -
 
 pub fn show_splits(rt: &HostRuntime) -> io::Result<()> {
     println!(rt; "== Splits")?;
-    show_row_offers(rt, "open (10; 1, 3, 2)", Open::new(1, 10, 1, 3, 2))?;
-    show_row_offers(rt, "open (10; 2, 3, 1)", Open::new(1, 10, 2, 3, 1))?;
-    show_row_offers(rt, "open (30; 2, 5, 3)", Open::new(1, 30, 2, 5, 3))?;
+    show_row_offers(rt, "open (10; 1, 3, 2)", open(10, 1, 3, 2))?;
+    show_row_offers(rt, "open (10; 2, 3, 1)", open(10, 2, 3, 1))?;
+    show_row_offers(rt, "open (30; 2, 5, 3)", open(30, 2, 5, 3))?;
     show_row_offers(
         rt,
         "open (10000; 4999, 1, 5000)",
-        Open::new(1, 10_000, 4_999, 1, 5_000),
+        open(10_000, 4_999, 1, 5_000),
     )
 }

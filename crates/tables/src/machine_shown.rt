@@ -1,8 +1,9 @@
 //! The machine: the worked run, a miss, each refusal of its calls, and the size of its core.
+use crate::rows_shown::show_answer;
 use loads::load::Load;
 use loads::pair::Pair;
 use loads::table::Table;
-use machine::answer::Ticked;
+use machine::answer::{Miss, Ticked};
 use machine::machine::Machine;
 use model::refusal::Refusal;
 use rows::bare::{PlainRow, SettledRow};
@@ -16,29 +17,27 @@ fn show_call(
 ) -> io::Result<()> {
     match answer {
         Ok(()) => println!(rt; "  {title} {task}: done"),
-        Err(refusal) => {
-            let number = refusal.number();
-            println!(rt; "  {title} {task}: refused by {number}")
-        }
+        Err(refusal) => println!(rt; "  {title} {task}: {refusal}"),
     }
 }
 
+// What a tick answers is printed only here.
 fn show_tick(rt: &HostRuntime, now: u64, answer: Result<Ticked, Refusal>) -> io::Result<()> {
     match answer {
         Ok(Ticked::Ran { task, piece }) => println!(rt;
             "  tick at {now}: task {task} piece {piece} ran"
         ),
         Ok(Ticked::Idle) => println!(rt; "  tick at {now}: idle"),
-        Ok(Ticked::Missed(miss)) => {
-            let task = miss.task;
-            let piece = miss.piece;
-            let instant = miss.instant;
-            println!(rt; "  tick at {now}: task {task} piece {piece} missed at {instant}")
-        }
-        Err(refusal) => {
-            let number = refusal.number();
-            println!(rt; "  tick at {now}: refused by {number}")
-        }
+        Ok(
+            Ticked::Missed(
+                Miss {
+                    task,
+                    piece,
+                    instant,
+                },
+            ),
+        ) => println!(rt; "  tick at {now}: task {task} piece {piece} missed at {instant}"),
+        Err(refusal) => println!(rt; "  tick at {now}: {refusal}"),
     }
 }
 
@@ -55,22 +54,24 @@ fn end<L: Load + Drop>(rt: &HostRuntime, machine: &mut Machine<L>, task: u64) ->
     show_call(rt, "end", task, machine.end(task))
 }
 
-/// A plain and a settled table, one after the other, if both are lawful.
-type Tables<'a> = Pair<Table<'a, PlainRow>, Table<'a, SettledRow>>;
+/// A plain and a settled table, one after the other.
+pub type Tables<'a> = Pair<Table<'a, PlainRow>, Table<'a, SettledRow>>;
 
-fn paired<'a>(plains: &'a [PlainRow], settleds: &'a [SettledRow]) -> Result<Tables<'a>, Refusal> {
+/// The two tables, if both are lawful.
+pub fn paired<'a>(
+    plains: &'a [PlainRow],
+    settleds: &'a [SettledRow],
+) -> Result<Tables<'a>, Refusal> {
     let first = Table::new(plains)?;
     let second = Table::new(settleds)?;
     Ok(Pair { first, second })
 }
 
-/// The number by which opening is refused, 0 where it is not.
-fn open_number(plains: &[PlainRow], settleds: &[SettledRow], start: u64) -> Result<u8, Refusal> {
+/// Whether a machine opens on the two tables at `start`.
+fn opening(plains: &[PlainRow], settleds: &[SettledRow], start: u64) -> Result<(), Refusal> {
     let load = paired(plains, settleds)?;
-    match Machine::open(&load, start) {
-        Ok(_) => Ok(0),
-        Err(refusal) => Ok(refusal.number()),
-    }
+    Machine::open(&load, start)?;
+    Ok(())
 }
 
 /// Both tasks wake at 0; ten ticks, with a wake of task 1 at 9 and at 10.
@@ -98,10 +99,7 @@ fn show_miss<L: Load + Drop>(rt: &HostRuntime, machine: &mut Machine<L>) -> io::
     wake(rt, machine, 0)?;
     end(rt, machine, 0)?;
     match machine.miss() {
-        Some(miss) => {
-            let task = miss.task;
-            println!(rt; "  the miss kept is task {task}")
-        }
+        Some(Miss { task, .. }) => println!(rt; "  the miss kept is task {task}"),
         None => println!(rt; "  no miss is kept"),
     }
 }
@@ -133,44 +131,23 @@ fn show_last_instant<L: Load + Drop>(rt: &HostRuntime, machine: &mut Machine<L>)
     tick(rt, machine)
 }
 
-/// The runs that are shown.
-#[derive(Clone, Copy)]
-enum Run {
-    Worked,
-    Refusals,
-    LastInstant,
-    Miss,
-    OpenJob,
-}
-
 /// Opens a machine on the two tables at `start`, and shows a run of it.
-fn show_run(
+fn show_run<'a, F: FnOnce(&HostRuntime, &mut Machine<Tables<'a>>) -> io::Result<()>>(
     rt: &HostRuntime,
-    plains: &[PlainRow],
-    settleds: &[SettledRow],
+    plains: &'a [PlainRow],
+    settleds: &'a [SettledRow],
     start: u64,
-    run: Run,
-) -> io::Result<()> {
+    run: F,
+) -> io::Result<()>
+    requires { F.IsAlwaysCallable run }
+{
     let Ok(load) = paired(plains, settleds) else {
         return println!(rt; "  no such tables");
     };
-    let Ok(mut machine) = Machine::open(&load, start) else {
+    let Ok(mut machine) = Machine::open(load, start) else {
         return println!(rt; "  no machine");
     };
-    match run {
-        Run::Worked => show_worked_run(rt, &mut machine),
-        Run::Refusals => show_refusals(rt, &mut machine),
-        Run::LastInstant => show_last_instant(rt, &mut machine),
-        Run::Miss => show_miss(rt, &mut machine),
-        Run::OpenJob => show_open_job(rt, &mut machine),
-    }
-}
-
-fn show_opening(rt: &HostRuntime, title: &str, number: Result<u8, Refusal>) -> io::Result<()> {
-    match number {
-        Ok(number) => println!(rt; "{title}: refused by {number}"),
-        Err(_) => println!(rt; "{title}: no such tables"),
-    }
+    run(rt, &mut machine)
 }
 
 pub fn show_machine(rt: &HostRuntime) -> io::Result<()> {
@@ -190,17 +167,23 @@ pub fn show_machine(rt: &HostRuntime) -> io::Result<()> {
         split: 1,
     };
     println!(rt; "plain (5; 5, 1), settled (10; 1, 8, 1; split 1)")?;
-    show_run(rt, &[plain], &[page], 0, Run::Worked)?;
+    show_run(rt, &[plain], &[page], 0, show_worked_run)?;
     println!(rt; "the same, refused calls")?;
-    show_run(rt, &[plain], &[page], 7, Run::Refusals)?;
+    show_run(rt, &[plain], &[page], 7, show_refusals)?;
     println!(rt; "the same, from the latest start")?;
-    show_run(rt, &[plain], &[page], 999_999_999_700_000, Run::LastInstant)?;
-    show_opening(
+    show_run(
+        rt,
+        &[plain],
+        &[page],
+        999_999_999_700_000,
+        show_last_instant,
+    )?;
+    show_answer(
         rt,
         "a later start",
-        open_number(&[plain], &[page], 999_999_999_700_001),
+        opening(&[plain], &[page], 999_999_999_700_001),
     )?;
-    show_opening(rt, "33 tasks", open_number(&[plain; 32], &[page], 0))
+    show_answer(rt, "33 tasks", opening(&[plain; 32], &[page], 0))
 }
 
 pub fn show_misses(rt: &HostRuntime) -> io::Result<()> {
@@ -217,7 +200,7 @@ pub fn show_misses(rt: &HostRuntime) -> io::Result<()> {
         cost: 1,
     };
     println!(rt; "plain (2; 2, 2), (2; 1, 1)")?;
-    show_run(rt, &[late, tight], &[], 0, Run::Miss)?;
+    show_run(rt, &[late, tight], &[], 0, show_miss)?;
     let long = PlainRow {
         name: 1,
         spacing: 9,
@@ -231,7 +214,7 @@ pub fn show_misses(rt: &HostRuntime) -> io::Result<()> {
         cost: 1,
     };
     println!(rt; "plain (9; 1, 1), (1; 1, 1)")?;
-    show_run(rt, &[long, short], &[], 0, Run::OpenJob)?;
+    show_run(rt, &[long, short], &[], 0, show_open_job)?;
     // a machine is its load and its core
     let bytes = size_of::<Machine<()>>();
     println!(rt; "the core takes {bytes} bytes")

@@ -1,65 +1,39 @@
 //! Texts: a good one, one faulty one for each number that reading can give, and the lines that are written.
-use frames::fault::Layer;
-use frames::text::read_text;
+use frames::fault::Fault;
+use frames::text::{Counts, read_text};
 use lines::line::Line;
 use lines::write::{done_line, no_split_line, overload_line, row_line};
 use rows::bare::{BoundedRow, OpenRow, PlainRow, SettledRow};
-use std::io;
 use std::io::Write;
+use std::{array, io};
 
 /// What a text reads as: how many rows of each kind, or its fault.
 fn show_text(rt: &HostRuntime, title: &str, text: &[u8]) -> io::Result<()> {
-    let mut plains = [PlainRow {
-        name: 0,
-        spacing: 0,
-        due: 0,
-        cost: 0,
-    }; 32];
-    let mut opens = [OpenRow {
-        name: 0,
-        spacing: 0,
-        first: 0,
-        wait: 0,
-        second: 0,
-    }; 32];
-    let mut boundeds = [BoundedRow {
-        name: 0,
-        spacing: 0,
-        first: 0,
-        second: 0,
-        total: 0,
-        wait: 0,
-        split: 0,
-    }; 32];
+    let mut plains = [PlainRow::default(); 32];
+    let mut opens = [OpenRow::default(); 32];
+    let mut boundeds = [BoundedRow::default(); 32];
     match read_text(text, &mut plains, &mut opens, &mut boundeds) {
-        Ok(counts) => {
-            let plain = counts.plains;
-            let open = counts.opens;
-            let bounded = counts.boundeds;
-            println!(rt; "{title}: {plain} plain, {open} open, {bounded} bounded")
-        }
-        Err(fault) => {
-            let number = fault.number();
-            let line = fault.line;
-            let layer = match fault.layer {
-                Layer::Text => "text",
-                Layer::Frame => "frame",
-                Layer::Row => "row",
-                Layer::Table => "table",
-            };
-            println!(rt; "{title}: refused by {number} in line {line}, layer {layer}")
-        }
+        Ok(
+            Counts {
+                plains,
+                opens,
+                boundeds,
+            },
+        ) => println!(rt; "{title}: {plains} plain, {opens} open, {boundeds} bounded"),
+        Err(
+            Fault {
+                refusal,
+                line,
+                layer,
+            },
+        ) => println!(rt; "{title}: {refusal} in line {line}, layer {layer}"),
     }
 }
 
 /// 33 plain rows.
 fn many_rows() -> [u8; 561] {
     let line = b"0101000500050001\n";
-    let mut text = [0; 561];
-    for i in 0..561 {
-        text[i] = line[i % 17];
-    }
-    text
+    array::from_fn(|i| line[i % line.len()])
 }
 
 pub fn show_texts(rt: &HostRuntime) -> io::Result<()> {

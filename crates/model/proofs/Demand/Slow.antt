@@ -1,44 +1,36 @@
 -- Slowed tasks: lawful, with the same round, and their demand is the multiple.
-use Rattle.std.proofs.Common.{◌≡◌, ℕ, ◌+◌, ◌-◌, ◌*◌, ◌/◌, ◌%◌, ◌≤◌, min, max, ltb, leb, List, [], ◌∷◌, map, sym, refl, ap, ◌∙◌, inl, inr, mul_assoc, mul_comm, mul-le-mul_left, mul-pos, mul-zero, mul-add, arith}
-use native.Mathlib.Nat.{mul-lt-mul_of_pos_left}
-use lib.ListN.{length-map}
+use Rattle.std.proofs.Common.{◌≡◌, ℕ, ◌+◌, ◌-◌, ◌*◌, ◌/◌, ◌%◌, ◌≤◌, min, max, ltb, leb, List, [], ◌∷◌, map, sym, refl, inl, inr, mul_left_comm, mul-le-mul_left, mul-pos, mul-zero, mul-add, arith}
+use Rattle.std.proofs.Math.Nat.{mul-lt-mul_of_pos_left}
+use Rattle.std.proofs.lemmas.List.{length-map}
 use Rattle.std.proofs.lemmas.Bool.{cases_lt, cases_Bool}
 use Rattle.model.specs.Task.{Piece, Task, Lawful, AllLawful, Ordered, StartsAtWake, EachCapAtMost, caps, caps_before_last}
 use Rattle.model.specs.Demand.{caps_by, part, from_wake, from_piece, from_any, demand, demand_of_all}
 use Rattle.model.specs.Slow.{slow_piece, slow, slowed}
 use Rattle.model.specs.Round.{round}
-use Rattle.model.specs.Laws.{DemandKeepsLaws}
-use Rattle.model.proofs.Demand.Laws.{demand_none, demand_mono, demand_step}
+use Rattle.model.proofs.All.{all_weaker, all_map}
 
 module _ (n : ℕ) where
   times_min : (a b : ℕ) → min (n * a) (n * b) ≡ n * min a b
-  times_min a b = elim (cases_lt a b) [
-    | inl l ↦ let le : a ≤ b = omega arith in let e : min a b ≡ a = omega arith in rw e (omega (arith, mul-le-mul_left n le))
-    | inr le ↦ let e : min a b ≡ b = omega arith in rw e (omega (arith, mul-le-mul_left n le))
-  ]
+  times_min a b = grind (arith, cases_lt a b, mul-le-mul_left {m = a} {n = b} n, mul-le-mul_left {m = b} {n = a} n)
 
   times_max : (a b : ℕ) → max (n * a) (n * b) ≡ n * max a b
-  times_max a b = elim (cases_lt a b) [
-    | inl l ↦ let le : a ≤ b = omega arith in let e : max a b ≡ b = omega arith in rw e (omega (arith, mul-le-mul_left n le))
-    | inr le ↦ let e : max a b ≡ a = omega arith in rw e (omega (arith, mul-le-mul_left n le))
-  ]
+  times_max a b = grind (arith, cases_lt a b, mul-le-mul_left {m = a} {n = b} n, mul-le-mul_left {m = b} {n = a} n)
 
   caps_by_slow : (e : ℕ) (ps : List Piece) → caps_by e (map (slow_piece n) ps) ≡ n * caps_by e ps
   caps_by_slow e [] = sym (mul-zero n)
   caps_by_slow e (p ∷ ps) = elim (cases_Bool (leb p.due e)) [
-    | inl t ↦ rw t (ap (λ c. n * p.cap + c) (caps_by_slow e ps) ∙ sym (mul-add n p.cap (caps_by e ps)))
-    | inr t ↦ rw t (ap (λ c. 0 + c) (caps_by_slow e ps) ∙ ap (λ c. c + n * caps_by e ps) (sym (mul-zero n)) ∙ sym (mul-add n 0 (caps_by e ps)))
+    | inl t ↦ rw t (omega (arith, caps_by_slow e ps, mul-add n p.cap (caps_by e ps)))
+    | inr t ↦ rw t (omega (arith, caps_by_slow e ps))
   ]
 
   part_slow : (k : Task) (e : ℕ) (ps : List Piece) → part (slow n k) e (map (slow_piece n) ps) ≡ n * part k e ps
-  part_slow k e ps = ap (min (n * k.total)) (caps_by_slow e ps) ∙ times_min k.total (caps_by e ps)
+  part_slow k e ps = rw (caps_by_slow e ps) (times_min k.total (caps_by e ps))
 
   wake_slow : (k : Task) (t : ℕ) → from_wake (slow n k) t ≡ n * from_wake k t
   unfolding from_wake
   wake_slow k t =
       let q = t / k.spacing in
-      let e : q * (n * k.total) ≡ n * (q * k.total) = sym (mul_assoc q n k.total) ∙ ap (λ m. m * k.total) (mul_comm q n) ∙ mul_assoc n q k.total in
-      omega (arith, e, part_slow k (t % k.spacing) k.pieces, mul-add n (q * k.total) (part k (t % k.spacing) k.pieces))
+      omega (arith, mul_left_comm q n k.total, part_slow k (t % k.spacing) k.pieces, mul-add n (q * k.total) (part k (t % k.spacing) k.pieces))
 
   piece_slow : (k : Task) (p : Piece) (ps : List Piece) (t : ℕ) → from_piece (slow n k) (slow_piece n p) (map (slow_piece n) ps) t ≡ n * from_piece k p ps t
   unfolding from_piece
@@ -49,7 +41,7 @@ module _ (n : ℕ) where
 
   any_slow : (k : Task) (ps : List Piece) (t : ℕ) → from_any (slow n k) (map (slow_piece n) ps) t ≡ n * from_any k ps t
   any_slow k [] t = sym (mul-zero n)
-  any_slow k (p ∷ ps) t = ap (λ m. max m (from_any (slow n k) (map (slow_piece n) ps) t)) (piece_slow k p ps t) ∙ ap (max (n * from_piece k p ps t)) (any_slow k ps t) ∙ times_max (from_piece k p ps t) (from_any k ps t)
+  any_slow k (p ∷ ps) t = rw (piece_slow k p ps t, any_slow k ps t) (times_max (from_piece k p ps t) (from_any k ps t))
 
   pub demand_slow : (k : Task) (t : ℕ) → demand (slow n k) t ≡ n * demand k t
   unfolding demand
@@ -79,12 +71,12 @@ module _ (n : ℕ) where
 
     caps_slow : (ps : List Piece) → caps (map (slow_piece n) ps) ≡ n * caps ps
     caps_slow [] = sym (mul-zero n)
-    caps_slow (p ∷ ps) = ap (λ c. n * p.cap + c) (caps_slow ps) ∙ sym (mul-add n p.cap (caps ps))
+    caps_slow (p ∷ ps) = omega (arith, caps_slow ps, mul-add n p.cap (caps ps))
 
     before_last_slow : (ps : List Piece) → caps_before_last (map (slow_piece n) ps) ≡ n * caps_before_last ps
     before_last_slow [] = sym (mul-zero n)
     before_last_slow (p ∷ []) = sym (mul-zero n)
-    before_last_slow (p ∷ q ∷ ps) = ap (λ c. n * p.cap + c) (before_last_slow (q ∷ ps)) ∙ sym (mul-add n p.cap (caps_before_last (q ∷ ps)))
+    before_last_slow (p ∷ q ∷ ps) = omega (arith, before_last_slow (q ∷ ps), mul-add n p.cap (caps_before_last (q ∷ ps)))
 
     pub slow_lawful : (k : Task) → Lawful k → Lawful (slow n k)
     slow_lawful k l = record {
@@ -99,12 +91,8 @@ module _ (n : ℕ) where
     }
 
     pub slowed_lawful : (ks : List Task) → AllLawful ks → AllLawful (slowed n ks)
-    slowed_lawful [] l = tt
-    slowed_lawful (k ∷ ks) l = (slow_lawful k l.0, slowed_lawful ks l.1)
+    slowed_lawful ks l = all_map Lawful (slow n) ks (all_weaker Lawful (λ k. Lawful (slow n k)) slow_lawful ks l)
 
 -- a factor is 2 or more
 pub factor_lawful : (n : ℕ) → 2 ≤ n → (ks : List Task) → AllLawful ks → AllLawful (slowed n ks)
 factor_lawful n h = slowed_lawful n (omega arith)
-
-pub demand_keeps_laws : DemandKeepsLaws
-demand_keeps_laws k l = record { none = demand_none k l; monotone = demand_mono k l; periodic = demand_step k l; linear = λ n. demand_slow n k }

@@ -1,5 +1,5 @@
 -- The demand of rows as it is worked out, and that it is the greatest.
-use Rattle.std.proofs.Common.{◌≡◌, ℕ, ◌+◌, ◌-◌, ◌/◌, ◌<◌, ◌≤◌, min, cond, leb, Some, None, Option, sym, refl, ◌∙◌, subst, div-le_self, arith, MatchOption}
+use Rattle.std.proofs.Common.{◌≡◌, ℕ, ◌+◌, ◌-◌, ◌/◌, ◌<◌, ◌≤◌, Some, None, Option, sym, refl, ◌∙◌, div-le_self, arith, MatchOption}
 use Rattle.std.proofs.lemmas.Nat.{mul-le}
 use Rattle.std.proofs.lemmas.Bool.Decides.{nat_tests}
 use Rattle.model.specs.Asked.{demand_told}
@@ -16,17 +16,8 @@ pub record Asked (k : Task) (t : ℕ) (r : Option ℕ) : Type 0 where
   pub value : r ≡ demand_told (Some k) t
   pub greatest : MatchOption r (1000000 < t) (Greatest k t)
 
-some_told : (t n d : ℕ) → t ≤ 1000000 → n ≡ d → n ≤ 100000000000000 → Some n ≡ (cond (leb t 1000000) (Some (min d 1000000000000000)) None)
-some_told t n d h e top = grind (arith, nat_tests)
-
-none_told : (t d : ℕ) → 1000000 < t → None ≡ (cond (leb t 1000000) (Some (min d 1000000000000000)) None)
-none_told t d h = grind (arith, nat_tests)
-
-pub far : (k : Task) (t : ℕ) → 1000000 < t → Asked k t None
-far k t h = record { value = none_told t (demand k t) h; greatest = h }
-
 near : (k : Task) (t n : ℕ) → Lawful k → t ≤ 1000000 → n ≡ demand k t → n ≤ 100000000000000 → Asked k t (Some n)
-near k t n law h e top = record { value = some_told t n (demand k t) h e top; greatest = subst (Greatest k t) (sym e) (greatest k law t) }
+near k t n law h e top = record { value = grind (arith, nat_tests); greatest = rw e (greatest k law t) }
 
 module _ (T D C : ℕ) (l : LawfulPlain T D C) (t : ℕ) (h : t ≤ 1000000) where
   plain_top : plain_asks T D C t ≤ 100000000000000

@@ -1,5 +1,5 @@
 -- What rows that break no rule keep.
-use Rattle.std.proofs.Common.{◌≡◌, ℕ, ◌+◌, Some, None, Option, refl, ap, arith}
+use Rattle.std.proofs.Common.{◌≡◌, ℕ, ◌+◌, Some, None, Option, refl, arith}
 use Rattle.std.proofs.lemmas.Bool.Decides.{nat_tests}
 use Rattle.model.specs.declared.refusal.Refusal.{Refusal}
 use Rattle.model.specs.Rules.{or_least, plain_fault, settled_fault, bounded_fault, plain_task, settled_task, bounded_task}
@@ -36,27 +36,27 @@ bounded_task_lawful T C1 C2 C S D = either_lawful (bounded_fault T C1 C2 C S D) 
 -- the row's own task where it breaks no rule, else the least
 pub plain_is_own : (T D C : ℕ) → plain_fault T D C ≡ None → plain_task T D C ≡ plain T D C
 unfolding plain_task
-plain_is_own T D C e = ap (λ f. or_least f (plain T D C) (plain 1 1 1)) e
+plain_is_own T D C e = rw e
 
 pub plain_is_least : (T D C : ℕ) (r : Refusal) → plain_fault T D C ≡ Some r → plain_task T D C ≡ plain 1 1 1
 unfolding plain_task
-plain_is_least T D C r e = ap (λ f. or_least f (plain T D C) (plain 1 1 1)) e
+plain_is_least T D C r e = rw e
 
 pub settled_is_own : (T C1 S C2 D : ℕ) → settled_fault T C1 S C2 D ≡ None → settled_task T C1 S C2 D ≡ paired T S D C1 C2 (C1 + C2)
 unfolding settled_task
-settled_is_own T C1 S C2 D e = ap (λ f. or_least f (paired T S D C1 C2 (C1 + C2)) (paired 3 1 1 1 1 2)) e
+settled_is_own T C1 S C2 D e = rw e
 
 pub settled_is_least : (T C1 S C2 D : ℕ) (r : Refusal) → settled_fault T C1 S C2 D ≡ Some r → settled_task T C1 S C2 D ≡ paired 3 1 1 1 1 2
 unfolding settled_task
-settled_is_least T C1 S C2 D r e = ap (λ f. or_least f (paired T S D C1 C2 (C1 + C2)) (paired 3 1 1 1 1 2)) e
+settled_is_least T C1 S C2 D r e = rw e
 
 pub bounded_is_own : (T C1 C2 C S D : ℕ) → bounded_fault T C1 C2 C S D ≡ None → bounded_task T C1 C2 C S D ≡ paired T S D C1 C2 C
 unfolding bounded_task
-bounded_is_own T C1 C2 C S D e = ap (λ f. or_least f (paired T S D C1 C2 C) (paired 3 1 1 1 1 2)) e
+bounded_is_own T C1 C2 C S D e = rw e
 
 pub bounded_is_least : (T C1 C2 C S D : ℕ) (r : Refusal) → bounded_fault T C1 C2 C S D ≡ Some r → bounded_task T C1 C2 C S D ≡ paired 3 1 1 1 1 2
 unfolding bounded_task
-bounded_is_least T C1 C2 C S D r e = ap (λ f. or_least f (paired T S D C1 C2 C) (paired 3 1 1 1 1 2)) e
+bounded_is_least T C1 C2 C S D r e = rw e
 
 pub rules_mean : RulesMean
 rules_mean = record {

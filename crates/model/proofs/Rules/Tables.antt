@@ -1,5 +1,5 @@
 -- The first of some rows that breaks a rule.
-use Rattle.std.proofs.Common.{◌≡◌, ℕ, ◌+◌, ◌<◌, ◌≤◌, List, [], ◌∷◌, ◌++◌, map, length, get_or, take, drop, Some, None, Option, sym, ap, ◌∙◌}
+use Rattle.std.proofs.Common.{◌≡◌, ℕ, ◌+◌, ◌<◌, ◌≤◌, List, map, length, get_or, take, drop, Some, None, Option, sym, ◌∙◌}
 use Rattle.std.proofs.lemmas.List.{at_drop_more, at_drop_all, map_more, take_all}
 use Rattle.std.proofs.lemmas.Bool.{le-leb, lt-leb}
 use Rattle.model.specs.declared.refusal.Refusal.{Refusal}
@@ -19,22 +19,18 @@ module _ {R : Type 0} (fault : R → Option Refusal) (rows : List R) where
 
   module _ (i : ℕ) (x : R) (h : i < length rows) (is : x ≡ get_or rows i x) (inv : first_fault fault (drop i rows) ≡ first_fault fault rows) where
     here : first_fault fault rows ≡ either (fault x) (first_fault fault (drop (i + 1) rows))
-    here = sym inv ∙ at_drop_more (first_fault fault) rows i x h ∙ ap (λ y. either (fault y) (first_fault fault (drop (i + 1) rows))) (sym is)
+    here = sym inv ∙ (rw (← is) at (at_drop_more (first_fault fault) rows i x h))
 
     pub fault_next : fault x ≡ None → first_fault fault (drop (i + 1) rows) ≡ first_fault fault rows
-    fault_next e = sym (here ∙ ap (λ f. either f (first_fault fault (drop (i + 1) rows))) e)
+    fault_next e = sym (here ∙ rw e)
 
     pub fault_found : (r : Refusal) → length rows ≤ 32 → fault x ≡ Some r → table_fault fault rows ≡ Some r
-    fault_found r low e = few low ∙ here ∙ ap (λ f. either f (first_fault fault (drop (i + 1) rows))) e
+    fault_found r low e = few low ∙ here ∙ rw e
 
 -- the tasks of rows that are tested one by one are those that the rows spell
 module _ {R : Type 0} (task own : R → Task) (rows : List R) where
   pub own_more : (i : ℕ) (x : R) → i < length rows → x ≡ get_or rows i x → task x ≡ own x → map task (take i rows) ≡ map own (take i rows) → map task (take (i + 1) rows) ≡ map own (take (i + 1) rows)
-  own_more i x h is e inv =
-      let a : map task (take (i + 1) rows) ≡ map task (take i rows) ++ task (get_or rows i x) ∷ [] = map_more task rows i x h in
-      let b : map own (take (i + 1) rows) ≡ map own (take i rows) ++ own (get_or rows i x) ∷ [] = map_more own rows i x h in
-      let c : task (get_or rows i x) ≡ own (get_or rows i x) = ap task (sym is) ∙ e ∙ ap own is in
-      a ∙ ap (λ ks. ks ++ task (get_or rows i x) ∷ []) inv ∙ ap (λ k. map own (take i rows) ++ k ∷ []) c ∙ sym b
+  own_more i x h is e inv = cc (map_more task rows i x h, map_more own rows i x h)
 
   pub own_all : (i : ℕ) → length rows ≤ i → map task (take i rows) ≡ map own (take i rows) → map task rows ≡ map own rows
-  own_all i h inv = ap (map task) (sym (take_all i rows h)) ∙ inv ∙ ap (map own) (take_all i rows h)
+  own_all i h inv = cc (take_all i rows h)

@@ -1,22 +1,19 @@
 -- A machine on the told tasks does what the machine on the exact ones does.
-use Rattle.std.proofs.Common.{◌≡◌, ℕ, zero, suc, ◌+◌, ◌^◌, ◌<◌, ◌≤◌, Bool, true, false, cond, not, ltb, leb, List, [], ◌∷◌, map, length, get_or, set, Some, None, Option, sym, refl, ap, ◌∙◌, subst, inl, inr, arith}
+use Rattle.std.proofs.Common.{◌≡◌, ℕ, zero, suc, ◌+◌, ◌^◌, ◌<◌, ◌≤◌, Bool, true, false, cond, not, ltb, leb, List, [], ◌∷◌, map, length, get_or, set, Some, None, Option, sym, refl, ap, ◌∙◌, inl, inr, arith}
+use Rattle.std.proofs.Math.ListN.{get_or-map}
 use Rattle.std.proofs.lemmas.List.{length-map, map-set}
-use Rattle.std.proofs.lemmas.Bool.{leb-true, leb-false, le-leb, lt-leb, ltb-true, not-false, cases_Bool, cases_lt, cond_both}
+use Rattle.std.proofs.lemmas.Bool.Decides.{nat_tests}
+use Rattle.std.proofs.lemmas.Bool.{cases_Bool, ltb-true, not-false, cond_both}
 use Rattle.model.specs.declared.refusal.Refusal.{Refusal}
 use Rattle.model.specs.declared.refusal.Refusal.TheVariants.{Stopped, NoTask, TooSoon, JobOpen, LastInstant, NotFront}
 use Rattle.model.specs.Task.{Piece, Task, Ordered, Lawful, AllLawful}
-use Rattle.model.specs.Machine.{Call, wake, end, tick, ran, missed, Progress, State, Step, Pick, Chosen, at_rest, asleep, opened, due_if, ready_due, late_due, least, front, late, is_front, no_task, task_at, progress_at, piece_number, limit_of, limit, rest_of, too_soon, is_open, stopped, started, runs, misses, finished, one_more, ran_tick, refuses, do_wake, do_end, do_tick, step, after_all, answers}
+use Rattle.model.specs.Machine.{Call, wake, end, tick, Progress, State, Step, Pick, Chosen, at_rest, asleep, opened, due_if, ready_due, late_due, least, front, late, is_front, no_task, task_at, progress_at, piece_number, limit_of, limit, rest_of, too_soon, is_open, stopped, started, runs, misses, finished, one_more, ran_tick, refuses, do_wake, do_end, do_tick, step, after_all, answers}
 use Rattle.model.specs.Told.{told_piece, told_task, told_tasks, told_progress, told_state, ToldSuffices}
-use Rattle.model.proofs.Each.{lawful_at}
+use Rattle.model.proofs.Each.{lawful_at, asleep_at}
 use Rattle.model.proofs.Least.{chosen}
 use Rattle.model.proofs.Asked.Sums.{sum_told}
 
 -- lists
-map_at : {A B : Type 0} (f : A → B) (xs : List A) (i : ℕ) (d : A) → get_or (map f xs) i (f d) ≡ f (get_or xs i d)
-map_at f [] i d = refl
-map_at f (x ∷ xs) zero d = refl
-map_at f (x ∷ xs) (suc i) d = map_at f xs i d
-
 set_each : {A : Type 0} (P : A → Type 0) (xs : List A) (i : ℕ) (x d : A) → P x → ((j : ℕ) → P (get_or xs j d)) → (j : ℕ) → P (get_or (set xs i x) j d)
 set_each P [] i x d p h j = h j
 set_each P (y ∷ ys) zero x d p h zero = p
@@ -26,10 +23,10 @@ set_each P (y ∷ ys) (suc i) x d p h (suc j) = set_each P ys i x d p (λ n. h (
 
 -- what of a machine does not depend on costs
 task_told : (ks : List Task) (i : ℕ) → task_at (told_tasks ks) i ≡ told_task (task_at ks i)
-task_told ks i = map_at told_task ks i no_task
+task_told ks i = get_or-map told_task ks i no_task
 
 progress_told : (s : State) (i : ℕ) → progress_at (told_state s) i ≡ told_progress (progress_at s i)
-progress_told s i = map_at told_progress s.progress i at_rest
+progress_told s i = get_or-map told_progress s.progress i at_rest
 
 due_told : (counts : ℕ → ℕ → Bool) (last : Option ℕ) (l : List Piece) → due_if counts last (map told_piece l) ≡ due_if counts last l
 due_told counts last [] = refl
@@ -37,7 +34,7 @@ due_told counts last (p ∷ ps) = refl
 
 keys_told : (counts : ℕ → ℕ → Bool) (gs : List Progress) → map (λ g. due_if counts g.last g.left) (map told_progress gs) ≡ map (λ g. due_if counts g.last g.left) gs
 keys_told counts [] = refl
-keys_told counts (g ∷ gs) = let e = due_told counts g.last g.left in let r = keys_told counts gs in cc
+keys_told counts (g ∷ gs) = cc (due_told counts g.last g.left, keys_told counts gs)
 
 front_told : (s : State) → front (told_state s) ≡ front s
 front_told s = ap least (keys_told (λ r d. leb r s.now) s.progress)
@@ -57,7 +54,7 @@ rest_told [] = refl
 rest_told (p ∷ ps) = refl
 
 finished_told : (g : Progress) → finished (told_progress g) ≡ told_progress (finished g)
-finished_told g = ap (λ l. record { last = g.last; left = l; ran_now = 0; ran_before = g.ran_before + g.ran_now }) (rest_told g.left)
+finished_told g = rw (rest_told g.left)
 
 -- the invariant: a job ran no more than 10000, only since its wake, and what is left of it is due within 10000 of that
 abbrev pub DueWithin : ℕ → List Piece → Type 0
@@ -109,10 +106,7 @@ in_time : (now w : ℕ) (p : Piece) (ps : List Piece) → due_if (λ r d. leb d 
 in_time now w p ps n = grind arith
 
 young_more : (now key : ℕ) (last : Option ℕ) (before r : ℕ) (l : List Piece) → due_if (λ r d. leb d now) last l ≡ None → due_if (λ r d. leb r now) last l ≡ Some key → Young now last (before + r) l → Young (now + 1) last (before + (r + 1)) l
-young_more now key last before r [] n e y = absurd (omega (arith, none_some key e))
-  where
-    none_some : (key : ℕ) → None ≡ Some key → ◌≡◌ {A = ℕ} 0 1
-    none_some key e = cc
+young_more now key last before r [] n e y = cc
 young_more now key None before r (p ∷ ps) n e y = absurd y
 young_more now key (Some w) before r (p ∷ ps) n e y = let b = in_time now w p ps n in (omega arith, omega arith, y.2)
 
@@ -123,12 +117,6 @@ young_run now key k g n e y =
     (λ t. young_finished (now + 1) (one_more g) more)
     (λ t. more)
 
-same_leb : (a b c : ℕ) → (a ≤ c → b ≤ c) → (b ≤ c → a ≤ c) → leb a c ≡ leb b c
-same_leb a b c f g = elim (cases_Bool (leb b c)) [
-  | inl e ↦ le-leb a c (g (leb-true b c e)) ∙ sym e
-  | inr e ↦ lt-leb a c (elim (cases_lt c a) [ inl l ↦ l | inr l ↦ omega (arith, leb-false b c e, f l) ]) ∙ sym e
-]
-
 ends_told : (now : ℕ) (k : Task) (g : Progress) → late_due now g ≡ None → YoungOne now g → leb (limit (told_task k) (told_progress g)) (g.ran_now + 1) ≡ leb (limit k g) (g.ran_now + 1)
 ends_told now k g n y = by g.last g.left n y
   where
@@ -136,13 +124,11 @@ ends_told now k g n y = by g.last g.left n y
         leb (limit_of (told_task k) (told_progress g) (map told_piece l)) (g.ran_now + 1) ≡ leb (limit_of k g l) (g.ran_now + 1)
     by last [] n y = refl
     by None (p ∷ ps) n y = absurd y
-    by (Some w) (p ∷ ps) n y = let b = in_time now w p ps n in same_leb _ _ (g.ran_now + 1) (λ h. omega arith) (λ h. omega arith)
+    by (Some w) (p ∷ ps) n y = let b = in_time now w p ps n in grind (arith, nat_tests)
 
 ran_told : (now : ℕ) (k : Task) (g : Progress) → late_due now g ≡ None → YoungOne now g → ran_tick (told_task k) (told_progress g) ≡ told_progress (ran_tick k g)
 ran_told now k g n y =
-    let ends = leb (limit k g) (g.ran_now + 1) in
-    let goal : Bool → Bool → Type 0 = λ b' b. cond b' (finished (one_more (told_progress g))) (one_more (told_progress g)) ≡ told_progress (cond b (finished (one_more g)) (one_more g)) in
-    subst (λ b. goal b ends) (sym (ends_told now k g n y)) (elim ends as (λ b. goal b b) [ true ↦ finished_told (one_more g) | false ↦ refl ])
+    elim (cases_Bool (leb (limit k g) (g.ran_now + 1))) [ inl t ↦ rw (ends_told now k g n y, t) (finished_told (one_more g)) | inr t ↦ rw (ends_told now k g n y, t) ]
 
 -- steps
 pub record Same (st' st : Step) : Type 0 where
@@ -151,17 +137,17 @@ pub record Same (st' st : Step) : Type 0 where
   pub young : AllYoung st.after
 
 same_cond : (b' b : Bool) (x' y' x y : Step) → b' ≡ b → (b ≡ true → Same x' x) → (b ≡ false → Same y' y) → Same (cond b' x' y') (cond b x y)
-same_cond b' b x' y' x y e f g = subst (λ c. Same (cond c x' y') (cond b x y)) (sym e) (elim b as (λ c. (c ≡ true → Same x' x) → (c ≡ false → Same y' y) → Same (cond c x' y') (cond c x y)) [ true ↦ λ f g. f refl | false ↦ λ f g. g refl ] f g)
+same_cond b' b x' y' x y e f g = elim (cases_Bool b) [ inl t ↦ rw (e, t) (f t) | inr t ↦ rw (e, t) (g t) ]
 
 module _ (ks : List Task) (law : AllLawful ks) (s : State) (young : AllYoung s) where
   refuse : (e : Refusal) → Same (refuses (told_state s) e) (refuses s e)
   refuse e = record { answer = refl; after = refl; young = young }
 
   set_told : (now i : ℕ) (g' g : Progress) → g' ≡ told_progress g → record { now = now; miss = s.miss; progress = set (map told_progress s.progress) i g' } ≡ told_state (record { now = now; miss = s.miss; progress = set s.progress i g })
-  set_told now i g' g e = ap (λ gs. record { now = now; miss = s.miss; progress = gs }) (ap (set (map told_progress s.progress) i) e ∙ sym (map-set told_progress s.progress i g))
+  set_told now i g' g e = rw (e, map-set told_progress s.progress i g)
 
   number_at : (i : ℕ) → piece_number (task_at (told_tasks ks) i) (progress_at (told_state s) i) ≡ piece_number (task_at ks i) (progress_at s i)
-  number_at i = let k = task_told ks i in let g = progress_told s i in let n = number_told (task_at ks i) (progress_at s i) in cc
+  number_at i = rw (task_told ks i, progress_told s i) (number_told (task_at ks i) (progress_at s i))
 
   -- a wake
   wake_same : (i : ℕ) → Same (do_wake (told_tasks ks) (told_state s) i) (do_wake ks s i)
@@ -176,7 +162,7 @@ module _ (ks : List Task) (law : AllLawful ks) (s : State) (young : AllYoung s) 
       same_cond _ (is_open g.left) _ _ _ _ (ap (λ h. is_open h.left) told_g ∙ open_told g.left) (λ t. refuse JobOpen) (λ t.
       record {
         answer = refl;
-        after = set_told s.now i _ (started k s.now) (ap (λ k. started k s.now) told_k);
+        after = set_told s.now i _ (started k s.now) (rw told_k);
         young = set_each (YoungOne s.now) s.progress i (started k s.now) at_rest (young_start s.now k (lawful_at ks law i (ltb-true i (length ks) (not-false _ b)))) young;
       }))))
 
@@ -189,7 +175,7 @@ module _ (ks : List Task) (law : AllLawful ks) (s : State) (young : AllYoung s) 
       same_cond _ (not (is_front i (front s))) _ _ _ _ (ap (λ o. not (is_front i o)) (front_told s)) (λ t. refuse NotFront) (λ t.
       record {
         answer = refl;
-        after = set_told s.now i _ (finished g) (ap finished (progress_told s i) ∙ finished_told g);
+        after = set_told s.now i _ (finished g) (rw (progress_told s i) (finished_told g));
         young = set_each (YoungOne s.now) s.progress i (finished g) at_rest (young_finished s.now g (young i)) young;
       })))
 
@@ -205,21 +191,21 @@ module _ (ks : List Task) (law : AllLawful ks) (s : State) (young : AllYoung s) 
       let g = progress_at s i in
       let told_k = task_told ks i in
       let told_g = progress_told s i in
-      let ready = sym (map_at (ready_due s.now) s.progress i at_rest) ∙ h.here in
+      let ready = sym (get_or-map (ready_due s.now) s.progress i at_rest) ∙ h.here in
       record {
-        answer = ap (ran i) (number_at i);
-        after = set_told (s.now + 1) i _ (ran_tick k g) (ap (λ k. ran_tick k (progress_at (told_state s) i)) told_k ∙ ap (ran_tick (told_task k)) told_g ∙ ran_told s.now k g (n i) (young i));
+        answer = rw (number_at i);
+        after = set_told (s.now + 1) i _ (ran_tick k g) (rw (told_k, told_g) (ran_told s.now k g (n i) (young i)));
         young = set_each (YoungOne (s.now + 1)) s.progress i (ran_tick k g) at_rest (young_run s.now c.key k g (n i) ready (young i)) all_later;
       }
 
   misses_same : (o : Option Pick) → Chosen (map (late_due s.now) s.progress) o → Same (misses (told_tasks ks) (told_state s) o) (misses ks s o)
-  misses_same None h = subst (λ o. Same (runs (told_tasks ks) (told_state s) o) (runs ks s (front s))) (sym (front_told s))
-      (runs_same (λ i. sym (map_at (late_due s.now) s.progress i at_rest) ∙ h i) (front s) (chosen (map (ready_due s.now) s.progress)))
+  misses_same None h = rw (front_told s)
+      (runs_same (λ i. sym (get_or-map (late_due s.now) s.progress i at_rest) ∙ h i) (front s) (chosen (map (ready_due s.now) s.progress)))
   misses_same (Some c) h =
       let i = c.number in
       record {
-        answer = ap (λ p. missed i p s.now) (number_at i);
-        after = ap (λ p. record { now = s.now; miss = Some (record { task = i; piece = p; instant = s.now }); progress = map told_progress s.progress }) (number_at i);
+        answer = rw (number_at i);
+        after = rw (number_at i);
         young = young;
       }
 
@@ -227,7 +213,7 @@ module _ (ks : List Task) (law : AllLawful ks) (s : State) (young : AllYoung s) 
   tick_same =
       same_cond (stopped s.miss) (stopped s.miss) _ _ _ _ refl (λ t. refuse Stopped) (λ t.
       same_cond (leb (10 ^ 15) s.now) (leb (10 ^ 15) s.now) _ _ _ _ refl (λ t. refuse LastInstant) (λ t.
-      subst (λ o. Same (misses (told_tasks ks) (told_state s) o) (misses ks s (late s))) (sym (late_told s)) (misses_same (late s) (chosen (map (late_due s.now) s.progress)))))
+      rw (late_told s) (misses_same (late s) (chosen (map (late_due s.now) s.progress)))))
 
   pub step_same : (c : Call) → Same (step (told_tasks ks) (told_state s) c) (step ks s c)
   step_same (wake i) = wake_same i
@@ -246,31 +232,26 @@ run_same ks law (c ∷ cs) s young =
     let st = step_same ks law s young c in
     let r = run_same ks law cs (step ks s c).after st.young in
     record {
-      answers_same = ap (λ a. a ∷ answers (told_tasks ks) (step (told_tasks ks) (told_state s) c).after cs) st.answer ∙ ap (λ s'. (step ks s c).answer ∷ answers (told_tasks ks) s' cs) st.after ∙ ap (λ rest. (step ks s c).answer ∷ rest) r.answers_same;
-      after_same = ap (λ s'. after_all (told_tasks ks) s' cs) st.after ∙ r.after_same;
+      answers_same = rw (st.answer, st.after, r.answers_same);
+      after_same = rw st.after r.after_same;
       young_after = r.young_after;
     }
 
 asleep_told : (ks : List Task) → asleep (told_tasks ks) ≡ map told_progress (asleep ks)
 asleep_told [] = refl
-asleep_told (k ∷ ks) = ap (λ gs. at_rest ∷ gs) (asleep_told ks)
+asleep_told (k ∷ ks) = rw (asleep_told ks)
 
 pub opened_told : (ks : List Task) (start : ℕ) → opened (told_tasks ks) start ≡ told_state (opened ks start)
-opened_told ks start = ap (λ gs. record { now = start; miss = None; progress = gs }) (asleep_told ks)
+opened_told ks start = rw (asleep_told ks)
 
 asleep_young : (now : ℕ) (ks : List Task) (i : ℕ) → YoungOne now (get_or (asleep ks) i at_rest)
-asleep_young now [] i = omega arith
-asleep_young now (k ∷ ks) zero = omega arith
-asleep_young now (k ∷ ks) (suc i) = asleep_young now ks i
-
-pub young_all : (ks : List Task) → AllLawful ks → (start : ℕ) (cs : List Call) → AllYoung (after_all ks (opened ks start) cs)
-young_all ks law start cs = (run_same ks law cs (opened ks start) (asleep_young start ks)).young_after
+asleep_young now ks i = rw (asleep_at ks i) (omega arith)
 
 pub answers_told : (ks : List Task) → AllLawful ks → (start : ℕ) (cs : List Call) → answers (told_tasks ks) (opened (told_tasks ks) start) cs ≡ answers ks (opened ks start) cs
-answers_told ks law start cs = ap (λ s. answers (told_tasks ks) s cs) (opened_told ks start) ∙ (run_same ks law cs (opened ks start) (asleep_young start ks)).answers_same
+answers_told ks law start cs = rw (opened_told ks start) (run_same ks law cs (opened ks start) (asleep_young start ks)).answers_same
 
 pub after_told : (ks : List Task) → AllLawful ks → (start : ℕ) (cs : List Call) → after_all (told_tasks ks) (opened (told_tasks ks) start) cs ≡ told_state (after_all ks (opened ks start) cs)
-after_told ks law start cs = ap (λ s. after_all (told_tasks ks) s cs) (opened_told ks start) ∙ (run_same ks law cs (opened ks start) (asleep_young start ks)).after_same
+after_told ks law start cs = rw (opened_told ks start) (run_same ks law cs (opened ks start) (asleep_young start ks)).after_same
 
 pub told_suffices : (ks : List Task) → AllLawful ks → ToldSuffices ks
 told_suffices ks law = record {

@@ -1,11 +1,11 @@
 -- Each verdict in the subject's words, and when the check accepts.
-use Rattle.std.proofs.Common.{◌≡◌, ℕ, zero, suc, ◌-◌, ◌*◌, ◌<◌, ◌≤◌, List, length, Some, None, Option, sym, refl, ap, ◌∙◌, subst, inl, inr, arith}
+use Rattle.std.proofs.Common.{◌≡◌, ℕ, ◌-◌, ◌*◌, ◌<◌, ◌≤◌, List, length, Some, None, Option, sym, refl, ap, ◌∙◌, subst, inl, inr, arith}
 use Rattle.std.proofs.lemmas.Bool.{cases_lt, lt-ltb, le-ltb, le-leb, lt-leb}
 use Rattle.model.specs.Task.{Task, AllLawful}
 use Rattle.model.specs.Demand.{demand_of_all}
 use Rattle.model.specs.Round.{round, round_told}
 use Rattle.model.specs.Verdict.{Verdict, accepted, overloaded, too_many, no_round, verdict_number, first_over, by_length, by_round, verdict}
-use Rattle.model.proofs.Demand.Laws.{all_none}
+use Rattle.model.proofs.Demand.Laws.{from_one}
 use Rattle.model.proofs.Round.Least.{two_rounds_tell}
 use Rattle.model.proofs.Verdict.Walk.{Walked, walked}
 
@@ -45,7 +45,7 @@ module _ (ks : List Task) where
     | inl m ↦ many (verdict_many m) m
     | inr few ↦ elim (cases_lt 100000 (round ks)) [
       | inl f ↦ far (verdict_far few f) few f
-      | inr near ↦ subst (Means ks) (sym (verdict_near few near)) (by_walk _ few near (walked ks (2 * round ks - 1) 1))
+      | inr near ↦ rw (verdict_near few near) (by_walk _ few near (walked ks (2 * round ks - 1) 1))
     ]
   ]
 
@@ -56,31 +56,28 @@ module _ (ks : List Task) where
     pub none_before : (s : ℕ) → 1 ≤ s → s < t → demand_of_all ks s ≤ s
 
   pub overloaded_means : (t : ℕ) → verdict ks ≡ overloaded t → Exceeds t
-  overloaded_means t e = go means
-    where
-      go : Means ks (verdict ks) → Exceeds t
-      go (fits v a b f) = let z : ◌≡◌ {A = ℕ} 0 12 = ap verdict_number (sym v ∙ e) in absurd (omega arith)
-      go (exceeds u v a b low high over before) = let s : overloaded u ≡ overloaded t = sym v ∙ e in let same : u ≡ t = cc in subst Exceeds same (record { in_range = omega arith; exceeded = over; none_before = before })
-      go (many v m) = let z : ◌≡◌ {A = ℕ} 10 12 = ap verdict_number (sym v ∙ e) in absurd (omega arith)
-      go (far v a f) = let z : ◌≡◌ {A = ℕ} 11 12 = ap verdict_number (sym v ∙ e) in absurd (omega arith)
+  overloaded_means t e = elim means [
+    | fits v a b f ↦ cc
+    | exceeds u v a b low high over before ↦ let same : u ≡ t = cc in subst Exceeds same (record { in_range = omega arith; exceeded = over; none_before = before })
+    | many v m ↦ cc
+    | far v a f ↦ cc
+  ]
 
   pub many_means : verdict_number (verdict ks) ≡ 10 → 32 < length ks
-  many_means e = go means
-    where
-      go : Means ks (verdict ks) → 32 < length ks
-      go (fits v a b f) = let z : ◌≡◌ {A = ℕ} 0 10 = ap verdict_number (sym v) ∙ e in absurd (omega arith)
-      go (exceeds u v a b low high over before) = let z : ◌≡◌ {A = ℕ} 12 10 = ap verdict_number (sym v) ∙ e in absurd (omega arith)
-      go (many v m) = m
-      go (far v a f) = let z : ◌≡◌ {A = ℕ} 11 10 = ap verdict_number (sym v) ∙ e in absurd (omega arith)
+  many_means e = elim means [
+    | fits v a b f ↦ absurd (omega (arith, ap verdict_number v))
+    | exceeds u v a b low high over before ↦ absurd (omega (arith, ap verdict_number v))
+    | many v m ↦ m
+    | far v a f ↦ absurd (omega (arith, ap verdict_number v))
+  ]
 
   pub far_means : verdict_number (verdict ks) ≡ 11 → (length ks ≤ 32) × (100000 < round ks)
-  far_means e = go means
-    where
-      go : Means ks (verdict ks) → (length ks ≤ 32) × (100000 < round ks)
-      go (fits v a b f) = let z : ◌≡◌ {A = ℕ} 0 11 = ap verdict_number (sym v) ∙ e in absurd (omega arith)
-      go (exceeds u v a b low high over before) = let z : ◌≡◌ {A = ℕ} 12 11 = ap verdict_number (sym v) ∙ e in absurd (omega arith)
-      go (many v m) = let z : ◌≡◌ {A = ℕ} 10 11 = ap verdict_number (sym v) ∙ e in absurd (omega arith)
-      go (far v a f) = (a, f)
+  far_means e = elim means [
+    | fits v a b f ↦ absurd (omega (arith, ap verdict_number v))
+    | exceeds u v a b low high over before ↦ absurd (omega (arith, ap verdict_number v))
+    | many v m ↦ absurd (omega (arith, ap verdict_number v))
+    | far v a f ↦ (a, f)
+  ]
 
   -- the check accepts exactly what fits every length
   pub record Fits : Type 0 where
@@ -89,26 +86,20 @@ module _ (ks : List Task) where
     pub passes : (t : ℕ) → 1 ≤ t → t < 2 * round ks → demand_of_all ks t ≤ t
 
   pub accepted_means : verdict ks ≡ accepted → Fits
-  accepted_means e = go means
-    where
-      go : Means ks (verdict ks) → Fits
-      go (fits v a b f) = record { few = a; near = b; passes = f }
-      go (exceeds u v a b low high over before) = let z : ◌≡◌ {A = ℕ} 12 0 = ap verdict_number (sym v ∙ e) in absurd (omega arith)
-      go (many v m) = let z : ◌≡◌ {A = ℕ} 10 0 = ap verdict_number (sym v ∙ e) in absurd (omega arith)
-      go (far v a f) = let z : ◌≡◌ {A = ℕ} 11 0 = ap verdict_number (sym v ∙ e) in absurd (omega arith)
+  accepted_means e = elim means [
+    | fits v a b f ↦ record { few = a; near = b; passes = f }
+    | exceeds u v a b low high over before ↦ cc
+    | many v m ↦ cc
+    | far v a f ↦ cc
+  ]
 
   pub accepted_fits : AllLawful ks → verdict ks ≡ accepted → (t : ℕ) → demand_of_all ks t ≤ t
-  accepted_fits l e = two_rounds_tell ks l early
-    where
-      early : (t : ℕ) → t < 2 * round ks → demand_of_all ks t ≤ t
-      early zero h = omega (arith, all_none ks l)
-      early (suc t) h = (accepted_means e).passes (suc t) (omega arith) h
+  accepted_fits l e = two_rounds_tell ks l (from_one ks l (2 * round ks) (accepted_means e).passes)
 
   pub fits_accepted : length ks ≤ 32 → round ks ≤ 100000 → ((t : ℕ) → demand_of_all ks t ≤ t) → verdict ks ≡ accepted
-  fits_accepted few near passes = go means
-    where
-      go : Means ks (verdict ks) → verdict ks ≡ accepted
-      go (fits v a b f) = v
-      go (exceeds t v a b low high over before) = absurd (omega (arith, passes t))
-      go (many v m) = absurd (omega arith)
-      go (far v a f) = absurd (omega arith)
+  fits_accepted few near passes = elim means [
+    | fits v a b f ↦ v
+    | exceeds t v a b low high over before ↦ absurd (omega (arith, passes t))
+    | many v m ↦ absurd (omega arith)
+    | far v a f ↦ absurd (omega arith)
+  ]

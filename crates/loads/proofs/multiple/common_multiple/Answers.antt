@@ -1,4 +1,5 @@
-use Rattle.std.proofs.Common.{◌≡◌, ℕ, ◌*◌, ◌/◌, sym, ap, ◌∙◌, inl, inr, mul-zero, zero-mul, arith}
+use Rattle.std.specs.Bool.{then_some}
+use Rattle.std.proofs.Common.{◌≡◌, ℕ, Bool, true, false, cond, Some, None, refl, ◌*◌, ◌/◌, sym, ap, ◌∙◌, mul-zero, zero-mul, arith, rules}
 use native.Mathlib.Nat.{zero-div}
 use Rattle.model.specs.Round.{lcm, gcd}
 use Rattle.model.proofs.Round.Lcm.{gcd_pos}
@@ -17,17 +18,18 @@ lcm_by : (a b g : ℕ) → g ≡ gcd a b → a / g * b ≡ lcm a b
 unfolding lcm
 lcm_by a b g e = ap (λ n. a / n * b) e
 
+then_is : (b : Bool) (n : ℕ) → then_some b n ≡ cond b (Some n) None
+then_is true n = refl
+then_is false n = refl
+
 pub nonzero_div-a : goal.nonzero_div-a
 nonzero_div-a c = rw c.greatest_divisor.ensures (gcd_pos c.args.a c.args.b (omega arith) (omega arith))
 
 pub returns-then-a-eq0 : goal.returns-then-a-eq0
-returns-then-a-eq0 c = told_some _ _ (elim c.then-a-eq0.either [ inl z ↦ lcm_from_zero _ _ z | inr z ↦ lcm_to_zero _ _ z.1 ]) (omega arith)
+returns-then-a-eq0 c = search (rules, told_some, lcm_from_zero, lcm_to_zero)
 
 pub returns-in_err-least : goal.returns-in_err-least
-returns-in_err-least c = c.from_residual.ensures ∙ told_none _ _ (lcm_by c.args.a c.args.b _ c.greatest_divisor.ensures) (omega (arith, c.in_err-least.ensures))
+returns-in_err-least c = search (rules, told_none, lcm_by)
 
-pub returns-then-least-le100000 : goal.returns-then-least-le100000
-returns-then-least-le100000 c = told_some _ _ (c.in_ok-least.ensures.1 ∙ lcm_by c.args.a c.args.b _ c.greatest_divisor.ensures) c.if-least-le100000.true
-
-pub returns-else-least-le100000 : goal.returns-else-least-le100000
-returns-else-least-le100000 c = told_none _ _ (c.in_ok-least.ensures.1 ∙ lcm_by c.args.a c.args.b _ c.greatest_divisor.ensures) c.if-least-le100000.false
+pub returns : goal.returns
+returns c = search (rules, then_is, lcm_by)

@@ -16,15 +16,6 @@ returns-in_err-round-2 g c =
     c.from_residual-in_err-round-2.ensures ∙ ap (λ f. join_round f (drop (i + 1) rows)) c.in_err-round-2.ensures ∙ sym (at_drop_more (join_round (Some c.loop-row.round)) rows i no_row (omega arith)) ∙ c.loop-row.invariant
     ∙ round_joined (g.L.Load.tasks c.args.rest.now) rows (g.L.Load.lawful c.args.rest.now) c.requires
 
-pub loop-row-init : goal.loop-row-init
-loop-row-init g c = ap (λ f. join_round f c.args.rows.now) c.in_ok-round.ensures
-
-pub loop-row-preserved : goal.loop-row-preserved
-loop-row-preserved g c =
-    let rows = c.args.rows.now in
-    let i = c.loop-row.row-index in
-    ap (λ f. join_round f (drop (i + 1) rows)) c.in_ok-round-2.ensures ∙ sym (at_drop_more (join_round (Some c.loop-row.round)) rows i no_row (omega arith)) ∙ c.loop-row.invariant
-
 pub returns : goal.returns
 returns g c =
     let rows = c.args.rows.now in

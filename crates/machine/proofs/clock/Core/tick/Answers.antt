@@ -1,4 +1,4 @@
-use Rattle.std.proofs.Common.{refl, ap, ◌∙◌, arith}
+use Rattle.std.proofs.Common.{ap, ◌∙◌, arith}
 use Rattle.model.specs.Machine as model
 use Rattle.machine.specs.declared.entry.Entry.{Entry}
 use Rattle.machine.specs.declared.entry.Event.TheVariants.{Tick}
@@ -10,24 +10,18 @@ use Rattle.machine.proofs.Steps.{ticked, same_tasks}
 use Rattle.machine.proofs.Ticks.{tick_idle, tick_ran, tick_missed}
 use Rattle.machine.proofs.clock.Core.tick.Goals as goal
 
-pub returns-in_default : goal.returns-in_default
-returns-in_default c =
+pub returns-in_default-clause-did : goal.returns-in_default-clause-did
+returns-in_default-clause-did c =
     let s = c.args.self.now in
-    record {
-      did = ap (stepped model.idle) c.pass.ensures.state ∙ tick_idle s (runs_is s.miss c.if-is_some.ensures) (omega arith) c.in_default.ensures.least;
-      tasks = c.pass.ensures.tasks;
-    }
+    ap (stepped model.idle) c.pass.ensures.state ∙ tick_idle s (runs_is s.miss c.if-is_some.ensures) (omega arith) c.in_default.ensures.least
 
-pub returns-then-front-at : goal.returns-then-front-at
-returns-then-front-at c =
+pub returns-then-front-at-clause-did : goal.returns-then-front-at-clause-did
+returns-then-front-at-clause-did c =
     let s = c.args.self.now in
     let x = ready_pick c.in-Some.front in
     let f = c.in-Some.ensures in
     let p = told_at (λ (e : Entry). piece_told e.phase) c.at_work-piece.result s.table.entries x.number _ (omega arith) c.at_work-piece.ensures in
-    record {
-      did = tick_missed s (runs_is s.miss c.if-is_some.ensures) (omega arith) x f.least f.within c.at_work-piece.result p (omega arith);
-      tasks = refl;
-    }
+    tick_missed s (runs_is s.miss c.if-is_some.ensures) (omega arith) x f.least f.within c.at_work-piece.result p (omega arith)
 
 pub returns : goal.returns
 returns c =

@@ -1,14 +1,12 @@
 use Rattle.std.proofs.Common.{arith}
-use Rattle.std.specs.Option.{option_map}
 use Rattle.machine.specs.Lines.{ready_pick}
 use Rattle.machine.specs.Keys.{ready_key}
-use Rattle.machine.proofs.Front.{front_is}
-use Rattle.machine.proofs.Keys.{keys_long}
-use Rattle.machine.proofs.Tables.{ready_within}
+use Rattle.machine.proofs.Front.{front_picked}
+use Rattle.machine.proofs.Keys.{seen_long}
 use Rattle.machine.proofs.table.Table.front.Goals as goal
 
 pub returns : goal.returns
 returns c =
     let t = c.args.self.now in
-    let e = front_is _ _ t.lined (option_map ready_pick c.front.result) c.front.ensures in
-    record { least = e; within = ready_within t.count _ c.front.result (keys_long ready_key t.count t.entries (omega arith)) e }
+    let front = front_picked ready_pick _ _ t.lined c.front.result c.front.ensures t.count (seen_long ready_key t.count t.entries (omega arith)) in
+    record { least = front.0; within = front.1 }

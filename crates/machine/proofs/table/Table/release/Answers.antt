@@ -8,11 +8,11 @@ use Rattle.machine.proofs.Tables.{front_key}
 use Rattle.machine.proofs.Releases.{release_step, release_done}
 use Rattle.machine.proofs.table.Table.release.Goals as goal
 
-pub returns-then-at-first : goal.returns-then-at-first
-returns-then-at-first c =
+pub returns-then-at-first-clause-entries : goal.returns-then-at-first-clause-entries
+returns-then-at-first-clause-entries c =
     let t = c.loop-first.self in
     let s = c.args.self.now in
-    record { count = c.loop-first.invariant.0; entries = release_done c.args.at s.count s.entries t (Some (held_pick c.in-Some.first)) c.loop-first.invariant.0 c.in-Some.ensures.least c.if-at-first.true c.loop-first.invariant.1 }
+    release_done c.args.at s.count s.entries t (Some (held_pick c.in-Some.first)) c.loop-first.invariant.0 c.in-Some.ensures.least c.if-at-first.true c.loop-first.invariant.1
 
 pub loop-first-preserved : goal.loop-first-preserved
 loop-first-preserved c =
@@ -26,8 +26,8 @@ loop-first-preserved c =
           (release_step at s.count s.entries t.entries x.number x.key (omega (arith, e.within, t.few, t.long)) (front_key t held_key x e.least e.within) c.if-at-first.false c.loop-first.invariant.1),
     )
 
-pub returns : goal.returns
-returns c =
+pub returns-clause-entries : goal.returns-clause-entries
+returns-clause-entries c =
     let t = c.loop-first.self in
     let s = c.args.self.now in
-    record { count = c.loop-first.invariant.0; entries = release_done c.args.at s.count s.entries t None c.loop-first.invariant.0 c.in_default.ensures.least tt c.loop-first.invariant.1 }
+    release_done c.args.at s.count s.entries t None c.loop-first.invariant.0 c.in_default.ensures.least tt c.loop-first.invariant.1

@@ -1,8 +1,6 @@
-use Rattle.std.proofs.lemmas.Result.{MatchResult-weaker}
+use Rattle.std.proofs.Common.{rules}
 use Rattle.model.proofs.Rules.Keeps.{settled_is_own}
 use Rattle.rows.proofs.bare.SettledRowBare.made.Goals as goal
 
 pub returns : goal.returns
-returns c =
-    let r = c.args.self.now in
-    MatchResult-weaker c.new.result c.new.ensures (λ m h. (h.0, settled_is_own r.spacing r.first r.wait r.second r.split h.0, simp (h.2, h.3, h.4, h.5, h.6, h.7), h.1)) (λ e h. h)
+returns c = search (rules, settled_is_own)
