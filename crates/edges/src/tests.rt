@@ -20,6 +20,7 @@ fn table_number<R: Bare>(rows: &[R]) -> Option<u8> {
     number(Table::new(rows))
 }
 
+// A maker for each kind: each names the fields of its own row.
 fn plain(row: (u64, u64, u64)) -> Option<u8> {
     let (spacing, due, cost) = row;
     number(Plain::try_from(PlainRow {

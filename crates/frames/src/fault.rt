@@ -53,6 +53,7 @@ impl Fault {
     }
 
     /// The number of the refusal.
+    // By number: programs and documents name refusals so.
     pub fn number(&self) -> u8
         ensures { result ≡ number self.now.refusal }
     {

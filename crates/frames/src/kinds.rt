@@ -22,6 +22,7 @@ pub trait FrameKind: Kind + Sized {
         ensures { result ≡ numbers self.now };
 }
 
+// Four impls of two functions: each names the fields of its own row.
 impl FrameKind for PlainRow {
     ghost row = { λ name fields. plain_row name fields };
 

@@ -18,6 +18,7 @@ impl Factor {
     pub fn new(value: u64) -> Result<Factor, Refusal>
         ensures { MatchResult result (λ f. (factor_fault value ≡ None) × (f.value ≡ value)) (λ e. factor_fault value ≡ Some e) }
     {
+        // Tested by its two ends, as the rule is written.
         if value < 2 || value > 8 {
             return Err(Refusal::Factor);
         }

@@ -13,6 +13,7 @@ pub trait Load {
     ghost lawful: { (l : Self) → AllLawful (tasks l) };
 
     /// How many tasks there are; 33 stands for 33 or more.
+    // A number and no Option: a rule of the project.
     fn count(&self) -> u64
         ensures { result ≡ count_told (tasks self.now) };
 

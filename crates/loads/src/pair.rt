@@ -39,6 +39,7 @@ impl<A: Load, B: Load> Pair<A, B> {
     }
 }
 
+// Each answer asks another question of the side: a function over the question would be longer than two arms.
 impl<A: Load, B: Load> Load for Pair<A, B> {
     ghost tasks = { λ p. A.Load.tasks p.first ++ B.Load.tasks p.second };
 

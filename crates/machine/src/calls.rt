@@ -14,6 +14,7 @@ use model::refusal::Refusal;
 const LAST: u64 = 1_000_000_000_000_000;
 
 // The core has a field `now`, so clauses name the core itself `self.entry.now`.
+// Each call says that the tasks stay: a fact of two states, which no type holds.
 impl Core {
     /// The core at its first instant, its tasks at rest.
     pub(crate) fn resting(start: u64, count: usize, entries: [Entry; 32]) -> Core
@@ -106,6 +107,7 @@ impl Core {
         if at >= LAST {
             return Err(Refusal::LastInstant);
         }
+        // Not ok_or: that no piece is ready is no refusal, it lets time pass.
         let Some(front) = self.table.front() else {
             self.pass();
             return Ok(Ticked::Idle);

@@ -58,6 +58,7 @@ impl Lines {
         match entry.phase {
             Phase::Rest => {}
             Phase::Ready { .. } => {
+                // The entry says what is taken.
                 let _ = self.ready.take();
             }
             Phase::Held { .. } => {

@@ -15,7 +15,7 @@ use crate::table::Table;
 use queue::records::{HeldPiece, ReadyPiece};
 
 // That a task is one of the table's and that an instant is not past the last stand on each move:
-// a type of numbers would not know the table, and one of instants would need sums of its own.
+// a type of numbers would not know the table, and one of instants would need sums of its own. That the count stays is a fact of two states.
 impl Table {
     /// Tasks at rest.
     pub(crate) fn resting(count: usize, entries: [Entry; 32]) -> Table

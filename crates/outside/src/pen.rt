@@ -22,6 +22,7 @@ impl Pen {
     pub fn new(clock: u64, stroke: u64) -> Option<Pen>
         ensures { MatchOption result (From 1 clock 20 × From 1 stroke 5 → ⊥) (λ p. (p.clock ≡ clock) × (p.stroke ≡ stroke)) }
     {
+        // Tested by their two ends, as the rule is written.
         if clock < 1 || clock > 20 || stroke < 1 || stroke > 5 {
             return None;
         }

@@ -7,7 +7,7 @@ use crate::sift::{put_into, take_from};
 use model::refusal::Refusal;
 
 /// The record at the front of the queue that a queue left in the first `len` of these places.
-// Places and length are two parameters: who keeps them holds them in a struct of his own.
+// Places and length are two parameters: whoever keeps them has them in a struct.
 pub fn front_of<R: Ranked + Copy>(items: &[R], len: usize) -> Option<R>
     ensures held { Peeked (take len items.now) result }
     ensures first { Heaped R.Ranked.earlier items.now len → GivesFirst R.Ranked.earlier (take len items.now) result }
@@ -49,6 +49,7 @@ pub fn take_first<R: Ranked + Copy>(items: &mut [R], len: usize) -> Option<R>
 ///
 /// What it gives out is before all different ones if the records are heaped, as they are in a new queue and after each call.
 // The places are lent, so the length stands beside them. `over` takes any length: no invariant ties the two.
+// That the lender and the places stay is a fact of two states, which each call says.
 #[derive(Drop)]
 pub struct Queue<'a, R> {
     items: &'a mut [R],
@@ -57,6 +58,7 @@ pub struct Queue<'a, R> {
 
 impl<'a, R: Ranked + Copy> Queue<'a, R> {
     /// An empty queue.
+    // `new` and not `From`: lent places are no other form of a queue.
     pub fn new(items: &'a mut [R]) -> Queue<'a, R>
         ensures places { result.items.now ≡ items.old }
         ensures lender { result.items.ghost_name ≡ items.entry.ghost_name }

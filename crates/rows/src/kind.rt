@@ -45,6 +45,7 @@ pub trait Row {
     ghost least_task: { Task };
 
     /// The least row of the kind, under a name.
+    // Not `Default`: the least row takes a name.
     fn least(name: u8) -> Self
         ensures { (task result ≡ least_task) × (title result ≡ name) };
 

@@ -25,6 +25,7 @@ impl TryFrom<PlainRow> for Plain {
     /// The row, unless a rule is broken.
     fn try_from(row: PlainRow) -> Result<Plain, Refusal> {
         test_spacing(row.spacing)?;
+        // Tested by their two ends, as the rules are written.
         if row.due < 1 || row.due > row.spacing {
             return Err(Refusal::Due);
         }

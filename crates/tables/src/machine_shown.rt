@@ -57,6 +57,8 @@ fn end<L: Load + Drop>(rt: &HostRuntime, machine: &mut Machine<L>, task: u64) ->
 /// A plain and a settled table, one after the other.
 pub type Tables<'a> = Pair<Table<'a, PlainRow>, Table<'a, SettledRow>>;
 
+// Rows and not the pair go from function to function: that no pair can be made is shown too.
+
 /// The two tables, if both are lawful.
 pub fn paired<'a>(
     plains: &'a [PlainRow],
@@ -126,6 +128,7 @@ fn show_open_job<L: Load + Drop>(rt: &HostRuntime, machine: &mut Machine<L>) -> 
 /// The last instants: 300,000 idle ticks, and one that is refused.
 fn show_last_instant<L: Load + Drop>(rt: &HostRuntime, machine: &mut Machine<L>) -> io::Result<()> {
     for _ in 0..300_000 {
+        // Idle ticks: what they answer is not shown.
         let _ = machine.tick();
     }
     tick(rt, machine)
