@@ -13,8 +13,8 @@ pub struct Factor {
 }
 
 impl Factor {
-    // `new` and not `TryFrom`: a number is no other form of a factor.
     /// A factor, unless it is out of range.
+    // `new` and not `TryFrom`: a number is no other form of a factor.
     pub fn new(value: u64) -> Result<Factor, Refusal>
         ensures { MatchResult result (λ f. (factor_fault value ≡ None) × (f.value ≡ value)) (λ e. factor_fault value ≡ Some e) }
     {

@@ -17,8 +17,8 @@ pub struct Table<'a, R> {
 }
 
 impl<'a, R: Bare> Table<'a, R> {
-    // `new` and not `TryFrom`: lent rows are no other form of a table.
     /// A table of the rows, unless there are more than 32 or one of them breaks a rule.
+    // `new` and not `TryFrom`: lent rows are no other form of a table.
     pub fn new(rows: &'a [R]) -> Result<Table<'a, R>, Refusal>
         ensures { MatchResult result (λ t. (t.rows ≡ rows.entry) × (table_fault R.Kind.fault rows.now ≡ None) × (map R.Bare.task t.rows.now ≡ map R.Bare.own rows.now)) (λ e. table_fault R.Kind.fault rows.now ≡ Some e) }
     {

@@ -9,8 +9,8 @@ pub struct Length {
 }
 
 impl Length {
-    // `new` and not `TryFrom`: a number is no other form of a length.
     /// The length, unless it is above 1,000,000.
+    // `new` and not `TryFrom`: a number is no other form of a length.
     pub fn new(value: u64) -> Option<Length>
         ensures { MatchOption result (1000000 < value) (λ l. l.value ≡ value) }
     {

@@ -3,7 +3,7 @@ use crate::rows_shown::show_answer;
 use loads::load::Load;
 use loads::pair::Pair;
 use loads::table::Table;
-use machine::answer::{Miss, Ticked};
+use machine::answer::Ticked;
 use machine::machine::Machine;
 use model::refusal::Refusal;
 use rows::bare::{PlainRow, SettledRow};
@@ -28,15 +28,10 @@ fn show_tick(rt: &HostRuntime, now: u64, answer: Result<Ticked, Refusal>) -> io:
             "  tick at {now}: task {task} piece {piece} ran"
         ),
         Ok(Ticked::Idle) => println!(rt; "  tick at {now}: idle"),
-        Ok(
-            Ticked::Missed(
-                Miss {
-                    task,
-                    piece,
-                    instant,
-                },
-            ),
-        ) => println!(rt; "  tick at {now}: task {task} piece {piece} missed at {instant}"),
+        Ok(Ticked::Missed(miss)) => println!(rt;
+            "  tick at {now}: task {} piece {} missed at {}",
+            miss.task, miss.piece, miss.instant
+        ),
         Err(refusal) => println!(rt; "  tick at {now}: {refusal}"),
     }
 }
@@ -101,7 +96,7 @@ fn show_miss<L: Load + Drop>(rt: &HostRuntime, machine: &mut Machine<L>) -> io::
     wake(rt, machine, 0)?;
     end(rt, machine, 0)?;
     match machine.miss() {
-        Some(Miss { task, .. }) => println!(rt; "  the miss kept is task {task}"),
+        Some(miss) => println!(rt; "  the miss kept is task {}", miss.task),
         None => println!(rt; "  no miss is kept"),
     }
 }

@@ -1,6 +1,5 @@
 //! Texts: a good one, one faulty one for each number that reading can give, and the lines that are written.
-use frames::fault::Fault;
-use frames::text::{Counts, read_text};
+use frames::text::read_text;
 use lines::line::Line;
 use lines::write::{done_line, no_split_line, overload_line, row_line};
 use rows::bare::{BoundedRow, OpenRow, PlainRow, SettledRow};
@@ -13,20 +12,14 @@ fn show_text(rt: &HostRuntime, title: &str, text: &[u8]) -> io::Result<()> {
     let mut opens = [OpenRow::default(); 32];
     let mut boundeds = [BoundedRow::default(); 32];
     match read_text(text, &mut plains, &mut opens, &mut boundeds) {
-        Ok(
-            Counts {
-                plains,
-                opens,
-                boundeds,
-            },
-        ) => println!(rt; "{title}: {plains} plain, {opens} open, {boundeds} bounded"),
-        Err(
-            Fault {
-                refusal,
-                line,
-                layer,
-            },
-        ) => println!(rt; "{title}: {refusal} in line {line}, layer {layer}"),
+        Ok(counts) => println!(rt;
+            "{title}: {} plain, {} open, {} bounded",
+            counts.plains, counts.opens, counts.boundeds
+        ),
+        Err(fault) => println!(rt;
+            "{title}: {} in line {}, layer {}",
+            fault.refusal, fault.line, fault.layer
+        ),
     }
 }
 
