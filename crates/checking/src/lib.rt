@@ -18,7 +18,10 @@ pub fn check<L: Load>(load: &L) -> Result<(), Refusal>
     if count > 32 {
         return Err(Refusal::TooManyTasks);
     }
-    let round = load.round().ok_or(Refusal::NoRound)?;
+    // No `ok_or`: here the compiler sees that a round is small, and need not test each length.
+    let Some(round) = load.round() else {
+        return Err(Refusal::NoRound);
+    };
     // A loop that breaks with its value: a form that the project asks for.
     let mut length = 1;
     let exceeded = 'lengths: loop {

@@ -1,7 +1,7 @@
 -- The bytes that digits spell, one by one.
-use Rattle.std.proofs.Common.{◌≡◌, ℕ, zero, suc, ◌+◌, ◌*◌, ◌/◌, ◌%◌, ◌<◌, true, List, [], ◌∷◌, length, get_or, Some, refl, add-one, arith, lt-ltb}
+use Rattle.std.proofs.Common.{◌≡◌, ℕ, zero, suc, ◌+◌, ◌*◌, ◌/◌, ◌%◌, ◌<◌, true, List, [], ◌∷◌, length, get_or, refl, add-one, arith}
 use Rattle.std.proofs.lemmas.Bool.Decides.{nat_tests}
-use Rattle.frames.specs.Hex.{worth, valued, all_digits, spells, bytes}
+use Rattle.frames.specs.Hex.{worth, all_digits, spells, bytes}
 
 pub length_bytes : (text : List ℕ) → length (bytes text) ≡ length text / 2
 length_bytes [] = refl
@@ -24,9 +24,6 @@ pub digit_small : (text : List ℕ) (i : ℕ) → all_digits text ≡ true → i
 digit_small [] i a h = absurd (omega arith)
 digit_small (b ∷ text) zero a h = grind (arith, nat_tests)
 digit_small (b ∷ text) (suc i) a h = digit_small text i (grind (arith, nat_tests)) (omega arith)
-
-pub digit_valued : (text : List ℕ) (i : ℕ) → all_digits text ≡ true → i < length text → valued (get_or text i 0) ≡ Some (worth (get_or text i 0))
-digit_valued text i a h = rw (lt-ltb _ _ (digit_small text i a h)) refl
 
 pub spells_digits : (text : List ℕ) → spells text ≡ true → all_digits text ≡ true
 unfolding spells

@@ -22,7 +22,7 @@ const VALUES: [u8; 256] = [
 ];
 
 /// The value of a digit; 255 for a byte that is no digit.
-fn value_of(byte: u8) -> u8
+pub fn value_of(byte: u8) -> u8
     ensures { result ≡ worth byte }
 {
     VALUES[byte as usize]

@@ -4,7 +4,7 @@ ghost use Rattle.frames.specs.Hex.{worth, spells, bytes};
 ghost use Rattle.frames.specs.Frames.{frame_fault, field, fields, digits_test, tag_of, length_test, body, tagged_body, framed};
 ghost use Rattle.frames.specs.Rows.{any_body, row_of};
 
-use crate::digits::digit_value;
+use crate::digits::{digit_value, value_of};
 use crate::fault::{Fault, Layer};
 use crate::kinds::{FrameKind, MOST_FIELDS};
 use model::refusal::Refusal;
@@ -56,13 +56,13 @@ impl<'a> Frame<'a> {
     }
 
     /// The value of the digit at a place.
-    #[tactic(auto, using(crate::proofs::Spelling::digit_valued, crate::proofs::Spelling::spells_digits))]
+    #[tactic(auto, using(crate::proofs::Spelling::digit_small, crate::proofs::Spelling::spells_digits))]
     fn digit(&self, place: usize) -> u8
         requires { place < length self.now.digits.now }
         ensures value { result ≡ worth (slice_index self.now.digits.now place) }
         ensures small { result < 16 }
     {
-        digit_value(self.digits[place]).unwrap()
+        value_of(self.digits[place])
     }
 
     /// A byte of the frame, 0 past its end.

@@ -10,12 +10,6 @@ spelled_push : (bs : List ℕ) (b : ℕ) → spelled (bs ++ b ∷ []) ≡ spelle
 spelled_push [] b = refl
 spelled_push (a ∷ bs) b = ap (λ rest. digit (a / 16) ∷ digit (a % 16) ∷ rest) (spelled_push bs b)
 
-pub spelled_more : (bytes : List ℕ) (i : ℕ) → i < length bytes → spelled (take (i + 1) bytes) ≡ (spelled (take i bytes) ++ digit (get_or bytes i 0 / 16) ∷ []) ++ digit (get_or bytes i 0 % 16) ∷ []
-spelled_more bytes i h =
-    ap spelled (take_more bytes i 0 h)
-    ∙ spelled_push (take i bytes) (get_or bytes i 0)
-    ∙ sym (append_assoc (spelled (take i bytes)) (digit (get_or bytes i 0 / 16) ∷ []) (digit (get_or bytes i 0 % 16) ∷ []))
-
 in_bytes_push : (ns : List ℕ) (n : ℕ) → in_bytes (ns ++ n ∷ []) ≡ in_bytes ns ++ (n / 256 % 256) ∷ (n % 256) ∷ []
 in_bytes_push [] n = refl
 in_bytes_push (m ∷ ns) n = ap (λ rest. (m / 256 % 256) ∷ (m % 256) ∷ rest) (in_bytes_push ns n)
@@ -29,6 +23,13 @@ take_two xs m n m' a b h d e =
     ∙ ap (λ (l : ℕ). take l (set xs m a) ++ b ∷ []) d
     ∙ ap (λ ys. ys ++ b ∷ []) (take_more_set xs m a (omega arith))
     ∙ append_assoc (take m xs) (a ∷ []) (b ∷ [])
+
+pub line_more : (xs bytes : List ℕ) (i a b : ℕ) → 2 * i + 1 < length xs → i < length bytes → take (2 * i) xs ≡ spelled (take i bytes) → a ≡ digit (get_or bytes i 0 / 16) → b ≡ digit (get_or bytes i 0 % 16) → take (2 * (i + 1)) (set (set xs (2 * i) a) (2 * i + 1) b) ≡ spelled (take (i + 1) bytes)
+line_more xs bytes i a b h l e p q =
+    take_two xs (2 * i) (2 * i + 1) (2 * (i + 1)) a b h refl (omega arith)
+    ∙ (λ j. e j ++ p j ∷ q j ∷ [])
+    ∙ sym (spelled_push (take i bytes) (get_or bytes i 0))
+    ∙ ap spelled (sym (take_more bytes i 0 l))
 
 pub short_more : (ns : List ℕ) (i : ℕ) → i < length ns → get_or ns i 0 ≤ 65535 → all_short (drop (i + 1) ns) ≡ all_short (drop i ns)
 short_more ns i h d =

@@ -1,5 +1,5 @@
 //! A line of text as it is written.
-ghost use Rattle.std.specs.Prelude.{◌≡◌, ◌+◌, ◌<◌, ◌≤◌, [], ◌∷◌, ◌++◌, length, take};
+ghost use Rattle.std.specs.Prelude.{◌≡◌, ◌<◌, ◌≤◌, length, take};
 ghost use Rattle.frames.specs.Hex.{digit, line};
 
 /// The most bytes of a frame: a tag, a name and six fields of two bytes.
@@ -34,30 +34,21 @@ fn digit_of(value: u8) -> u8
 
 impl Line {
     /// The line of some bytes.
-    #[tactic(auto, using(crate::proofs::Written::spelled_more))]
     pub(crate) fn of(bytes: &[u8]) -> Line
         requires { length bytes.now ≤ 14 }
         ensures { take result.size result.text ≡ line bytes.now }
     {
-        let mut line = Line {
-            text: [0; MOST_TEXT],
-            size: 0,
-        };
-        for byte in bytes {
-            line.push(digit_of(*byte / 16));
-            line.push(digit_of(*byte % 16));
+        let mut text = [0; MOST_TEXT];
+        for (i, byte) in bytes.iter().enumerate() {
+            text[2 * i] = digit_of(*byte / 16);
+            text[2 * i + 1] = digit_of(*byte % 16);
         }
-        line.push(b'\n');
-        line
-    }
-
-    fn push(&mut self, byte: u8)
-        requires { self.old.size < 29 }
-        ensures size { self.new.size ≡ self.old.size + 1 }
-        ensures text { take self.new.size self.new.text ≡ take self.old.size self.old.text ++ byte ∷ [] }
-    {
-        self.text[self.size] = byte;
-        self.size += 1;
+        let end = 2 * bytes.len();
+        text[end] = b'\n';
+        Line {
+            text,
+            size: end + 1,
+        }
     }
 
     /// The bytes of the line, its end included.

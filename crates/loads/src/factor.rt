@@ -29,6 +29,6 @@ impl Factor {
     pub fn times(&self, cost: u64) -> u64
         ensures { result ≡ told (self.now.value * cost) }
     {
-        self.value.saturating_mul(cost).min(1_000_000_000_000_000)
+        (self.value * cost.min(1_000_000_000_000_000)).min(1_000_000_000_000_000)
     }
 }

@@ -24,5 +24,6 @@ pub fn common_multiple(a: u64, b: u64) -> Option<u64>
         return Some(0);
     }
     let least = (a / greatest_divisor(a, b)).checked_mul(b)?;
-    (least <= 100_000).then_some(least)
+    // An `if`: so the compiler knows the bound wherever a round is used.
+    if least <= 100_000 { Some(least) } else { None }
 }

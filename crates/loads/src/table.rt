@@ -32,6 +32,8 @@ impl<'a, R: Bare> Table<'a, R> {
     }
 
     /// The made row of a task, if the table has it.
+    // Inlined always: each question of a task asks it.
+    #[inline(always)]
     pub fn row(&self, task: u64) -> Option<R::Made>
         ensures means { MatchOption result (found (map R.Bare.task self.now.rows.now) task ≡ None) (λ m. found (map R.Bare.task self.now.rows.now) task ≡ Some (R.Made.Row.task m)) }
         ensures named { MatchOption result (found (map R.Bare.task self.now.rows.now) task ≡ None) (λ m. Some (R.Made.Row.title m) ≡ name_told (found (map R.Bare.task self.now.rows.now) task) (slice_index (map R.Kind.title self.now.rows.now) task)) }
@@ -65,6 +67,8 @@ impl<'a, R: Bare> Load for Table<'a, R> {
         self.row(task)?.piece(number)
     }
 
+    // Inlined always: the check asks it for each length.
+    #[inline(always)]
     fn demand(&self, task: u64, length: u64) -> Option<u64> {
         self.row(task)?.demand(length)
     }

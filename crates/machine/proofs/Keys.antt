@@ -2,9 +2,9 @@
 use Rattle.std.proofs.Common.{◌≡◌, ℕ, zero, suc, ◌+◌, ◌<◌, ◌≤◌, List, [], ◌∷◌, map, length, get_or, take, set, Some, None, sum_by, Option, sym, refl, ap, ◌∙◌, subst, ⊎_elim, arith}
 use Rattle.std.proofs.lemmas.List.Sums.{sum_by-cons}
 use Rattle.std.proofs.lemmas.List.{map-set, get_or-map, length-map, length-take-le, get_or-take, set-get_or, get_or-set_same, get_or-set_other}
-use Rattle.std.proofs.Math.Seq.{take-set-lt}
 use Rattle.std.proofs.lemmas.Bool.{cases_eq}
 use Rattle.model.specs.Machine.{Pick}
+use Rattle.queue.proofs.Held.{take_set}
 use Rattle.machine.specs.declared.entry.Entry.{Entry}
 use Rattle.machine.specs.Views.{blank}
 use Rattle.machine.specs.Lines.{worth, tally, Holds}
@@ -43,12 +43,12 @@ module _ {X : Type 0} (f : Entry → X) (count : ℕ) (es : List Entry) (fits : 
   pub seen_at : (i : ℕ) (d : X) → i < count → get_or (seen f count es) i d ≡ f (get_or es i blank)
   seen_at i d l = get_or-map f (take count es) i blank d (omega (arith, length-take-le count es fits)) ∙ ap f (get_or-take count es i blank l)
 
-  pub seen_set : (i : ℕ) (e : Entry) → i < count → seen f count (set es i e) ≡ set (seen f count es) i (f e)
-  seen_set i e l = ap (map f) (take-set-lt count es i e l) ∙ map-set f (take count es) i e
+  pub seen_set : (i : ℕ) (e : Entry) → seen f count (set es i e) ≡ set (seen f count es) i (f e)
+  seen_set i e = ap (map f) (take_set es count i e) ∙ map-set f (take count es) i e
 
   -- where f tells the same, nothing changes
   pub seen_kept : (i : ℕ) (e : Entry) → i < count → f e ≡ f (get_or es i blank) → seen f count (set es i e) ≡ seen f count es
-  seen_kept i e l q = seen_set i e l ∙ ap (set (seen f count es) i) (q ∙ sym (seen_at i (f blank) l)) ∙ set-get_or (seen f count es) i (f blank)
+  seen_kept i e l q = seen_set i e ∙ ap (set (seen f count es) i) (q ∙ sym (seen_at i (f blank) l)) ∙ set-get_or (seen f count es) i (f blank)
 
 -- of the first `count` entries, the keys
 module _ (key : Entry → Option ℕ) (count : ℕ) (es : List Entry) (fits : count ≤ length es) where
@@ -60,7 +60,7 @@ module _ (key : Entry → Option ℕ) (count : ℕ) (es : List Entry) (fits : co
       let ks = seen key count es in
       let t : tally f 0 (set ks i (key e)) + worth f i (get_or ks i None) ≡ tally f 0 ks + worth f i (key e) = tally_set f 0 ks i i (key e) (omega arith) (omega (arith, seen_long key count es fits)) in
       let a : worth f i (get_or ks i None) ≡ worth f i (key (get_or es i blank)) = ap (worth f i) (seen_at key count es fits i None l) in
-      let b : tally f 0 (seen key count (set es i e)) ≡ tally f 0 (set ks i (key e)) = ap (tally f 0) (seen_set key count es fits i e l) in
+      let b : tally f 0 (seen key count (set es i e)) ≡ tally f 0 (set ks i (key e)) = ap (tally f 0) (seen_set key count es fits i e) in
       omega (arith, h f, s f)
 
   -- a line that lost the record of entry i, if it had one, has room

@@ -1,11 +1,11 @@
 -- What a line of records holds after one was put or taken.
-use Rattle.std.proofs.Common.{◌≡◌, ℕ, ◌+◌, ◌-◌, ◌<◌, ◌≤◌, Bool, true, List, [], ◌∷◌, map, length, take, Some, None, Ok, Err, sum_by, Option, Result, ap, ◌∙◌, subst, arith}
+use Rattle.std.proofs.Common.{◌≡◌, ℕ, ◌+◌, ◌-◌, ◌<◌, ◌≤◌, Bool, true, List, [], ◌∷◌, map, length, take, Some, None, Ok, Err, sum_by, Option, Result, sym, refl, ap, ◌∙◌, subst, arith}
 use Rattle.std.specs.Option.{option_map}
 use Rattle.std.specs.List.Sorted.{IsPermutation}
 use Rattle.std.specs.List.{AllByRecursion}
 use Rattle.std.proofs.ByRecursion.{All-map}
 use Rattle.std.proofs.lemmas.List.{length-map, length-take-le, get_or-map}
-use Rattle.std.proofs.lemmas.List.Sorted.{IsPermutation-map, IsPermutation-sym, sum_by-IsPermutation}
+use Rattle.std.proofs.lemmas.List.Sorted.{IsPermutation-sym, sum_by-IsPermutation}
 use Rattle.std.proofs.lemmas.List.Sums.{sum_by-cons}
 use Rattle.model.specs.declared.refusal.Refusal.{Refusal}
 use Rattle.model.specs.Machine.{Pick}
@@ -14,8 +14,12 @@ use Rattle.machine.specs.Lines.{pick_before, Fronts, Takes}
 
 -- `pick` tells the task and the instant of a record, by which the records rank
 module _ {X : Type 0} (pick : X → Pick) where
+  sum_map : (f : Pick → ℕ) (xs : List X) → sum_by f (map pick xs) ≡ sum_by (λ x. f (pick x)) xs
+  sum_map f [] = refl
+  sum_map f (x ∷ xs) = sum_by-cons f (pick x) (map pick xs) ∙ ap (λ n. f (pick x) + n) (sum_map f xs) ∙ sym (sum_by-cons (λ x. f (pick x)) x xs)
+
   sum_shuffled : (f : Pick → ℕ) (x : X) (xs ys : List X) → IsPermutation (x ∷ xs) ys → sum_by f (map pick ys) ≡ f (pick x) + sum_by f (map pick xs)
-  sum_shuffled f x xs ys s = sum_by-IsPermutation f (map pick (x ∷ xs)) (map pick ys) (IsPermutation-map pick (x ∷ xs) ys s) ∙ sum_by-cons f (pick x) (map pick xs)
+  sum_shuffled f x xs ys s = sum_map f ys ∙ sum_by-IsPermutation (λ x. f (pick x)) (x ∷ xs) ys s ∙ sym (sum_map f (x ∷ xs)) ∙ sum_by-cons f (pick x) (map pick xs)
 
   -- what was put beside the first n of xs, where there is a place for it
   pub sum_put : (f : Pick → ℕ) (x : X) (xs ys : List X) (n : ℕ) (r : Result (Unit {0}) Refusal) → n < length xs → Put (length xs) (take n xs) x r (take (n + 1) ys) → sum_by f (map pick (take (n + 1) ys)) ≡ f (pick x) + sum_by f (map pick (take n xs))

@@ -48,13 +48,13 @@ module _ (c : Core) (i : ℕ) (runs : model.stopped (miss_of c.miss) ≡ false) 
 module _ (c : Core) (x : Pick) (f : model.least (map ready_key (take c.table.count c.table.entries)) ≡ Some x) (l : x.number < c.table.count) (t : Table) (same : t.count ≡ c.table.count) where
   pub ended : t.entries ≡ set c.table.entries x.number (moved (get_or c.table.entries x.number blank) (End c.now))
       → map progress_of (take t.count t.entries) ≡ set (state_of c).progress x.number (model.finished (model.progress_at (state_of c) x.number))
-  ended e = moved_progress c t x.number _ same e l _
+  ended e = moved_progress c t x.number _ same e _
       (ended_progress (get_or c.table.entries x.number blank) c.now x.key (c.table.good x.number l) (front_key c.table ready_key x f l)
       ∙ ap model.finished (sym (progress_is c x.number l)))
 
   pub ticked : t.entries ≡ set c.table.entries x.number (moved (get_or c.table.entries x.number blank) (Tick c.now))
       → map progress_of (take t.count t.entries) ≡ set (state_of c).progress x.number (model.ran_tick (model.task_at (tasks_of c) x.number) (model.progress_at (state_of c) x.number))
-  ticked e = moved_progress c t x.number _ same e l _
+  ticked e = moved_progress c t x.number _ same e _
       (ticked_progress (get_or c.table.entries x.number blank) c.now x.key (c.table.good x.number l) (front_key c.table ready_key x f l)
       ∙ (let p = sym (task_is c x.number l) in let q = sym (progress_is c x.number l) in λ k. model.ran_tick (p k) (q k)))
 

@@ -128,7 +128,7 @@ held_fewer t u i a l k n es =
     let ks = seen held_key t.count t.entries in
     let e = moved (get_or t.entries i blank) Release in
     let fits : t.count ≤ length t.entries = omega (arith, t.few, t.long) in
-    let is : seen held_key u.count u.entries ≡ set ks i (held_key e) = (λ j. seen held_key (n j) (es j)) ∙ seen_set held_key t.count t.entries fits i e l in
+    let is : seen held_key u.count u.entries ≡ set ks i (held_key e) = (λ j. seen held_key (n j) (es j)) ∙ seen_set held_key t.count t.entries fits i e in
     let one : worth (λ _. 1) i (get_or ks i None) ≡ 1 = ap (worth (λ _. 1) i) (seen_at held_key t.count t.entries fits i None l ∙ k) in
     let none : worth (λ _. 1) i (held_key e) ≡ 0 = ap (worth (λ _. 1) i) (released_none (get_or t.entries i blank)) in
     omega (

@@ -41,8 +41,8 @@ module _ (c : Core) where
 
   -- one entry of the table moves
   module _ (t : Table) (i : ℕ) (e : Entry) (same : t.count ≡ c.table.count) (es : t.entries ≡ set c.table.entries i e) where
-    pub moved_progress : i < c.table.count → (g : model.Progress) → progress_of e ≡ g → map progress_of (take t.count t.entries) ≡ set (state_of c).progress i g
-    moved_progress l g q = (λ k. map progress_of (take (same k) (es k))) ∙ seen_set progress_of c.table.count c.table.entries all_fit i e l ∙ ap (set (state_of c).progress i) q
+    pub moved_progress : (g : model.Progress) → progress_of e ≡ g → map progress_of (take t.count t.entries) ≡ set (state_of c).progress i g
+    moved_progress g q = (λ k. map progress_of (take (same k) (es k))) ∙ seen_set progress_of c.table.count c.table.entries all_fit i e ∙ ap (set (state_of c).progress i) q
 
     pub moved_tasks : i < c.table.count → task_of e ≡ task_of (get_or c.table.entries i blank) → map task_of (take t.count t.entries) ≡ tasks_of c
     moved_tasks l q = (λ k. map task_of (take (same k) (es k))) ∙ seen_kept task_of c.table.count c.table.entries all_fit i e l q

@@ -96,6 +96,8 @@ impl Core {
         self.now = at;
     }
 
+    // Inlined always, as the machine's own tick is.
+    #[inline(always)]
     pub(crate) fn tick(&mut self) -> Result<Ticked, Refusal>
         ensures did { stepped (ticked result) (state_of self.new) ≡ do_tick (tasks_of self.old) (state_of self.old) }
         ensures tasks { tasks_of self.new ≡ tasks_of self.old }

@@ -69,6 +69,8 @@ impl<L: Load + Drop> Machine<L> {
     }
 
     /// Runs the piece at the front for one tick, or stops the machine if a piece is late.
+    // Inlined always: ticks are many, and a caller that drops the answer need not pay for building it.
+    #[inline(always)]
     pub fn tick(&mut self) -> Result<Ticked, Refusal>
         ensures did { stepped (ticked result) (state_of self.new.core) ≡ do_tick (tasks_of self.old.core) (state_of self.old.core) }
         ensures earliest { TickSays (state_of self.old.core) (ticked result) }

@@ -1,6 +1,6 @@
 //! Bare rows: any numbers and a name, as tables and places hold them.
 ghost use Rattle.std.specs.Prelude.{◌≡◌, Some, None, MatchResult};
-ghost use Rattle.model.proofs.Rules.Keeps.{plain_task_lawful, plain_is_least, settled_task_lawful, settled_is_least, bounded_task_lawful, bounded_is_least};
+ghost use Rattle.model.proofs.Rules.Keeps.{plain_task_lawful, settled_task_lawful, bounded_task_lawful};
 ghost use Rattle.rows.specs.Bare.{plain_breaks, plain_own, plain_means, open_breaks, settled_breaks, settled_own, settled_means, bounded_breaks, bounded_own, bounded_means};
 
 use crate::bounded::Bounded;
@@ -52,10 +52,15 @@ impl Bare for PlainRow {
 
     ghost lawful = { λ r. plain_task_lawful r.spacing r.due r.cost };
 
-    ghost or_least = { λ r. plain_is_least r.spacing r.due r.cost };
-
     fn made(&self) -> Result<Plain, Refusal> {
         Plain::try_from(*self)
+    }
+
+    fn kept(&self) -> Plain {
+        match self.made() {
+            Ok(row) => row,
+            Err(_) => Plain::least(self.name),
+        }
     }
 }
 
@@ -135,10 +140,15 @@ impl Bare for SettledRow {
 
     ghost lawful = { λ r. settled_task_lawful r.spacing r.first r.wait r.second r.split };
 
-    ghost or_least = { λ r. settled_is_least r.spacing r.first r.wait r.second r.split };
-
     fn made(&self) -> Result<Settled, Refusal> {
         Settled::try_from(*self)
+    }
+
+    fn kept(&self) -> Settled {
+        match self.made() {
+            Ok(row) => row,
+            Err(_) => Settled::least(self.name),
+        }
     }
 }
 
@@ -186,9 +196,14 @@ impl Bare for BoundedRow {
 
     ghost lawful = { λ r. bounded_task_lawful r.spacing r.first r.second r.total r.wait r.split };
 
-    ghost or_least = { λ r. bounded_is_least r.spacing r.first r.second r.total r.wait r.split };
-
     fn made(&self) -> Result<Bounded, Refusal> {
         Bounded::try_from(*self)
+    }
+
+    fn kept(&self) -> Bounded {
+        match self.made() {
+            Ok(row) => row,
+            Err(_) => Bounded::least(self.name),
+        }
     }
 }

@@ -41,14 +41,6 @@ pub trait Row {
 
     ghost title: { Self → ℕ };
 
-    /// The task of the least row of the kind.
-    ghost least_task: { Task };
-
-    /// The least row of the kind, under a name.
-    // Not `Default`: the least row takes a name.
-    fn least(name: u8) -> Self
-        ensures { (task result ≡ least_task) × (title result ≡ name) };
-
     fn name(&self) -> u8
         ensures { result ≡ title self.now };
 
@@ -86,14 +78,5 @@ pub trait Bare: Kind {
 
     /// The made row, or the least row of the kind, under the same name.
     fn kept(&self) -> Self::Made
-        ensures { (Self.Made.Row.task result ≡ task self.now) × (Self.Made.Row.title result ≡ Self.Kind.title self.now) }
-    {
-        match self.made() {
-            Ok(row) => row,
-            Err(_) => Self::Made::least(self.name()),
-        }
-    }
-
-    /// A row that breaks a rule means the least row of its kind.
-    ghost or_least: { (r : Self) (e : Refusal) → Self.Kind.fault r ≡ Some e → task r ≡ Self.Made.Row.least_task };
+        ensures { (Self.Made.Row.task result ≡ task self.now) × (Self.Made.Row.title result ≡ Self.Kind.title self.now) };
 }

@@ -130,6 +130,8 @@ fn show_last_instant<L: Load + Drop>(rt: &HostRuntime, machine: &mut Machine<L>)
 }
 
 /// Opens a machine on the two tables at `start`, and shows a run of it.
+// Never inlined: so the machines of all runs take the stack one after the other.
+#[inline(never)]
 fn show_run<'a, F: FnOnce(&HostRuntime, &mut Machine<Tables<'a>>) -> io::Result<()>>(
     rt: &HostRuntime,
     plains: &'a [PlainRow],

@@ -1,5 +1,4 @@
-use Rattle.std.specs.Bool.{then_some}
-use Rattle.std.proofs.Common.{◌≡◌, ℕ, Bool, true, false, cond, Some, None, refl, ◌*◌, ◌/◌, sym, ap, ◌∙◌, mul-zero, zero-mul, arith, rules}
+use Rattle.std.proofs.Common.{◌≡◌, ℕ, ◌*◌, ◌/◌, sym, ap, ◌∙◌, mul-zero, zero-mul, arith, rules}
 use native.Mathlib.Nat.{zero-div}
 use Rattle.model.specs.Round.{lcm, gcd}
 use Rattle.model.proofs.Round.Lcm.{gcd_pos}
@@ -18,10 +17,6 @@ lcm_by : (a b g : ℕ) → g ≡ gcd a b → a / g * b ≡ lcm a b
 unfolding lcm
 lcm_by a b g e = ap (λ n. a / n * b) e
 
-then_is : (b : Bool) (n : ℕ) → then_some b n ≡ cond b (Some n) None
-then_is true n = refl
-then_is false n = refl
-
 pub nonzero_div-a : goal.nonzero_div-a
 nonzero_div-a c = rw c.greatest_divisor.ensures (gcd_pos c.args.a c.args.b (omega arith) (omega arith))
 
@@ -31,5 +26,8 @@ returns-then-a-eq0 c = search (rules, told_some, lcm_from_zero, lcm_to_zero)
 pub returns-in_err-least : goal.returns-in_err-least
 returns-in_err-least c = search (rules, told_none, lcm_by)
 
-pub returns : goal.returns
-returns c = search (rules, then_is, lcm_by)
+pub returns-then-least-le100000 : goal.returns-then-least-le100000
+returns-then-least-le100000 c = search (rules, told_some, lcm_by)
+
+pub returns-else-least-le100000 : goal.returns-else-least-le100000
+returns-else-least-le100000 c = search (rules, told_none, lcm_by)

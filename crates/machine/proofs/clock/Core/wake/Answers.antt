@@ -33,7 +33,7 @@ returns c =
     let t = c.start.new.self in
     let told = c.start.ensures in
     let e = moved old (Wake s.now) in
-    let g = moved_progress s t i e told.count told.entries known.1 (model.started (model.task_at (tasks_of s) i) s.now)
+    let g = moved_progress s t i e told.count told.entries (model.started (model.task_at (tasks_of s) i) s.now)
     (woken_progress old s.now rest ∙ ap (λ k. model.started k s.now) (sym (task_is s i known.1))) in
     record {
       did = ap (λ g. stepped model.done (record { now = s.now; miss = (state_of s).miss; progress = g })) g
