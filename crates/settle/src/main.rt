@@ -39,7 +39,7 @@ mod tests {
     use super::*;
     use std::test::Fail;
 
-    /// Packets: what of one does not fit the room of its read is lost.
+    /// Packets, each of its own number: what of one does not fit the room of its read is lost.
     #[derive(Drop)]
     struct Packets {
         sizes: [usize; 3],
@@ -51,8 +51,10 @@ mod tests {
             let Some(size) = self.sizes.get(self.next) else {
                 return Ok(0);
             };
+            let size = (*size).min(room.len());
             self.next += 1;
-            Ok((*size).min(room.len()))
+            room[..size].fill(self.next as u8);
+            Ok(size)
         }
     }
 
@@ -64,6 +66,9 @@ mod tests {
         };
         let mut buffer = [0; MOST_READ];
         assert_eq!(rt; read_input(&mut packets, &mut buffer)?, 14_600);
+        assert_eq!(rt; (buffer[0], buffer[599]), (1, 1));
+        assert_eq!(rt; (buffer[600], buffer[9_599]), (2, 2));
+        assert_eq!(rt; (buffer[9_600], buffer[14_599]), (3, 3));
         Ok(())
     }
 
